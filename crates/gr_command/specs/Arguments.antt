@@ -1,11 +1,10 @@
 -- What the words after the first one of a command name.
-use Rattle.std.specs.Prelude.{ℕ, ◌+◌, nat_eq, Bool, false, ◌&&◌, not, if◌then◌else◌, List, [], ◌∷◌, codes, Option, Some, None, option_map, option_and_then}
-use Rattle.std.specs.Cmp.Lexicographic.{pointwise}
-use Rattle.std.specs.List.{list_any, list_all}
+use Rattle.std.specs.Prelude.{ℕ, ◌+◌, Bool, false, ◌&&◌, not, if◌then◌else◌, List, [], ◌∷◌, codes, Option, Some, None, option_map, option_and_then}
+use Rattle.std.specs.List.{list_all}
 use Rattle.std.specs.Str.{bytes_eq}
 use Rattle.gr_base.specs.Names.{count_from, step_named}
 use Rattle.gr_base.specs.declared.names.StepId.{StepId}
-use Rattle.gr_scan.specs.Marks.{keywords}
+use Rattle.gr_scan.specs.Marks.{is_keyword}
 use Rattle.gr_scan.specs.Pieces.{is_letter, is_word}
 
 -- the number from 1 to the largest that a word spells, in decimal and with no leading zero
@@ -19,10 +18,6 @@ number_or_zero_named largest word = if bytes_eq word (codes "0") then Some 0 els
 -- a clause of a select, a line, or a send or receive among those on a channel, counted from 1
 abbrev pub ordinal_named : List ℕ → Option ℕ
 ordinal_named = number_named 4_294_967_295
-
--- a keyword of the language
-abbrev pub is_keyword : List ℕ → Bool
-is_keyword word = list_any (λ entry. pointwise nat_eq entry.0 word) keywords
 
 -- letters, digits and `_`, with no digit first
 abbrev pub is_name : List ℕ → Bool

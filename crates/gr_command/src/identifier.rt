@@ -1,44 +1,16 @@
 //! Identifiers of the language, as words of commands.
 
-ghost use Rattle.std.specs.Prelude.{◌≡◌, IfOk, IsTrue, nat_eq};
-ghost use Rattle.std.specs.Cmp.Lexicographic.{pointwise};
-ghost use Rattle.std.specs.List.{list_any, list_all};
+ghost use Rattle.std.specs.Prelude.{◌≡◌, IfOk, IsTrue};
+ghost use Rattle.std.specs.List.{list_all};
 ghost use Rattle.gr_scan.specs.Pieces.{is_letter, is_word};
-ghost use Rattle.gr_command.specs.Arguments.{is_keyword as keyword, is_name as name, is_identifier as identifier};
+ghost use Rattle.gr_command.specs.Arguments.{is_name as name, is_identifier as identifier};
 ghost use Rattle.gr_command.specs.Arguments.{identifier_named};
 
 use gr_base::NoMemory;
+use gr_scan::marks::is_keyword;
 use std::alloc::Global;
 use std::marker::Model;
 use std::sync::ArcSlice;
-
-const KEYWORDS: [&[u8]; 25] = [
-    b"break",
-    b"case",
-    b"chan",
-    b"const",
-    b"continue",
-    b"default",
-    b"defer",
-    b"else",
-    b"fallthrough",
-    b"for",
-    b"func",
-    b"go",
-    b"goto",
-    b"if",
-    b"import",
-    b"interface",
-    b"map",
-    b"package",
-    b"range",
-    b"return",
-    b"select",
-    b"struct",
-    b"switch",
-    b"type",
-    b"var",
-];
 
 /// An identifier of the language: letters, digits and `_`, with no digit first, and no keyword.
 #[derive(Drop)]
@@ -87,37 +59,21 @@ impl Identifier {
     }
 }
 
-fn is_among(mut spellings: &[&[u8]], word: &[u8]) -> bool
-    ensures { result ≡ list_any (λ spelling. pointwise nat_eq spelling.now word.now) spellings.entry.now }
-{
-    while let [spelling, rest @ ..] = spellings {
-        if *spelling == word {
-            return true;
-        }
-        spellings = rest;
-    }
-    false
-}
-
-#[tactic(auto, unfolding(gr_scan::specs::Marks::keywords))]
-fn is_keyword(word: &[u8]) -> bool
-    ensures { result ≡ keyword word.now }
-{
-    is_among(&KEYWORDS, word)
-}
-
+/// Whether an identifier may begin with a byte.
 fn is_first_byte(byte: u8) -> bool
     ensures { result ≡ is_letter byte }
 {
     byte.is_ascii_alphabetic() || byte == b'_'
 }
 
+/// Whether an identifier may have a byte after its first.
 fn is_word_byte(byte: u8) -> bool
     ensures { result ≡ is_word byte }
 {
     is_first_byte(byte) || byte.is_ascii_digit()
 }
 
+/// Whether all bytes are such as an identifier may have after its first.
 fn has_word_bytes(bytes: &[u8]) -> bool
     ensures { result ≡ list_all is_word bytes.now }
 {
@@ -134,6 +90,7 @@ fn is_name(word: &[u8]) -> bool
     }
 }
 
+/// Whether a word is an identifier, and no keyword.
 fn is_identifier(word: &[u8]) -> bool
     ensures { result ≡ identifier word.now }
 {

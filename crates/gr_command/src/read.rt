@@ -168,20 +168,8 @@ fn asked(alloc: Global, word: &[u8], rest: &[u8]) -> Result<Option<Line>, NoMemo
     question(alloc, word, rest)
 }
 
-/// What a line says. Its words stand between spaces or tabs, and a carriage return at its end is dropped. These are commands,
-/// where G names a goroutine, C a channel and ID a step, and I is from 1 to 4,294,967,295:
-///
-/// - `step G`, and `step G I` with the clause of a select
-/// - `run N`, with N from 1 to 1,000,000
-/// - `undo`
-/// - `back ID`, `back go G`, `back send C I`, `back recv C I`, and `back var G X` with an identifier X that is no keyword
-/// - `redo`
-/// - `order ID ..`, with at least one step
-/// - `deps ID` and `causes ID`
-/// - `break I` and `clear I`, with a line
-/// - `free N`, with N from 0 to 1,000,000
-/// - `show G`, `chan C`, `text G`, `console` and `log`
-/// - `quit`
+/// What a line says. Its words stand between spaces or tabs, and a carriage return at its end is dropped. The table `commands` of
+/// `specs/Commands` has each command by its first word, and what words may follow. `docs/COMMANDS.md` shows it to users.
 ///
 /// Numbers are decimal and have no leading zero. A line with no word is blank. Every other line is rejected, and so is one of
 /// more than 1,048,576 bytes.

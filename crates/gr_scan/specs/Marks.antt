@@ -1,5 +1,5 @@
 -- The spellings of keywords, operators and punctuation (Go: Keywords, Operators and punctuation).
-use Rattle.std.specs.Prelude.{ℕ, List, [], ◌∷◌, Option, Some, None, if◌then◌else◌, codes, nat_eq}
+use Rattle.std.specs.Prelude.{ℕ, Bool, List, [], ◌∷◌, Option, Some, None, is_some, if◌then◌else◌, codes, nat_eq}
 use Rattle.std.specs.Cmp.Lexicographic.{pointwise}
 use Rattle.gr_scan.specs.declared.token.Mark.{Mark}
 use Rattle.gr_scan.specs.declared.token.Mark.TheVariants as marks
@@ -91,3 +91,7 @@ operators =
 abbrev pub mark_in : List Spelling → List ℕ → Option Mark
 mark_in [] spelling = None
 mark_in (entry ∷ table) spelling = if pointwise nat_eq entry.0 spelling then Some entry.1 else mark_in table spelling
+
+-- a keyword of the language
+abbrev pub is_keyword : List ℕ → Bool
+is_keyword word = is_some (mark_in keywords word)

@@ -1,7 +1,7 @@
 //! The tokens of a Go text.
 #![tactic(auto)]
 
-mod marks;
+pub mod marks;
 mod number;
 pub mod piece;
 pub mod position;

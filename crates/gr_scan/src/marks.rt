@@ -1,6 +1,6 @@
 //! The spellings of keywords, operators and punctuation.
 ghost use Rattle.std.specs.Prelude.{◌≡◌, map};
-ghost use Rattle.gr_scan.specs.Marks.{mark_in, keywords, operators};
+ghost use Rattle.gr_scan.specs.Marks.{mark_in, keywords, operators, is_keyword as is_listed};
 ghost use Rattle.gr_scan.specs.Scanning.{first_prefix};
 
 use crate::token::Mark;
@@ -47,15 +47,22 @@ fn look_up(mut table: &[(&[u8], Mark)], spelling: &[u8]) -> Option<Mark>
 
 /// The keyword of this spelling.
 #[tactic(auto, unfolding(crate::specs::Marks::keywords))]
-pub fn keyword(word: &[u8]) -> Option<Mark>
+pub(crate) fn keyword(word: &[u8]) -> Option<Mark>
     ensures { result ≡ mark_in keywords word.now }
 {
     look_up(&KEYWORDS, word)
 }
 
+/// Whether a word is a keyword of the language.
+pub fn is_keyword(word: &[u8]) -> bool
+    ensures { result ≡ is_listed word.now }
+{
+    keyword(word).is_some()
+}
+
 /// The longest operator or punctuation mark at the front of a text, and its length in bytes.
 #[tactic(auto, unfolding(crate::specs::Marks::operators))]
-pub fn operator(text: &[u8]) -> Option<(Mark, usize)>
+pub(crate) fn operator(text: &[u8]) -> Option<(Mark, usize)>
     ensures { result ≡ first_prefix operators text.now }
 {
     match text {

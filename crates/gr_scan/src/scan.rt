@@ -43,7 +43,7 @@ pub enum ScanError {
     #[error("literal or comment of a kind that is left out at byte offset {0}")]
     LeftOut(usize),
     /// S7: the text is longer than 1,048,576 bytes.
-    #[error("text of more than 1048576 bytes")]
+    #[error("text of more than {limit} bytes", limit = TEXT_LIMIT)]
     TooLong,
     /// S8: there was not enough memory, which says nothing about the text.
     #[error("out of memory")]
