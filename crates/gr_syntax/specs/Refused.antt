@@ -10,7 +10,7 @@ use Rattle.gr_syntax.specs.declared.parse.ParseError.{ParseError}
 use Rattle.gr_syntax.specs.declared.parse.ParseError.TheVariants as errors
 use Rattle.gr_syntax.specs.FileGrammar.{SpellsFile}
 
--- the marks of Go that begin what the language leaves out
+-- the marks of Go that begin what the language leaves out: `var` outside functions, and `func` inside
 abbrev pub is_left_out : Mark → Bool
 is_left_out marks.Const = true
 is_left_out marks.Defer = true

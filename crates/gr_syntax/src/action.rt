@@ -8,7 +8,7 @@ ghost use Rattle.gr_syntax.specs.Views.{Finds, AtMost};
 
 use crate::expression::{arguments, expr, exprs};
 use crate::look::{
-    Found, ReadError, Tokens, abandon, after, copy, is_the_make, name, names, needed,
+    Found, ReadError, Tokens, abandon, after, beside, copy, is_the_make, name, names, needed,
 };
 use crate::opening::{ends, first_name};
 use crate::types::type_tree;
@@ -42,10 +42,7 @@ fn typed<'a, 't>(
             rest: tokens,
         });
     };
-    let values = match exprs(alloc, limit, false, rest) {
-        Ok(values) => values,
-        Err(fault) => return abandon(type_tree, fault),
-    };
+    let (values, type_tree) = beside(exprs(alloc, limit, false, rest), type_tree)?;
     let height = height.max(values.height) + 1;
     if height > limit {
         return abandon(type_tree, ReadError::TooHigh { left: tokens.len() });

@@ -17,11 +17,7 @@ use std::alloc::Global;
 pub(crate) fn acts<'a, 't>(place: Place, action: Found<'a, 't, Action>) -> Found<'a, 't, Stmt>
     ensures gives { found_of statement_of result ≡ placed place (found_of act_of action.entry) }
 {
-    Found {
-        value: Stmt::Act(place, action.value),
-        height: action.height,
-        rest: action.rest,
-    }
+    action.map(|action| Stmt::Act(place, action))
 }
 
 /// The block of a statement of its own.
@@ -80,9 +76,5 @@ pub(crate) fn plain<'a, 't>(
     ensures fits { AtMost limit result }
 {
     let found = simple(alloc, limit, true, first)?;
-    Ok(Found {
-        value: Stmt::Act(place, Action::Simple(found.value)),
-        height: found.height,
-        rest: found.rest,
-    })
+    Ok(found.map(|simple| Stmt::Act(place, Action::Simple(simple))))
 }

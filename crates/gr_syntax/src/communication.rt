@@ -8,7 +8,7 @@ ghost use Rattle.gr_syntax.specs.StatementReading.{comm_at};
 ghost use Rattle.gr_syntax.specs.Views.{Finds, Continues, found_of, AtMost};
 
 use crate::expression::{expr, operand};
-use crate::look::{Found, ReadError, Tokens, abandon, after, boxed, copy, name, needed};
+use crate::look::{Found, ReadError, Tokens, abandon, after, beside, boxed, copy, name, needed};
 use gr_scan::token::Mark;
 use gr_tree::{Communication, Expr, UnaryOp};
 use std::alloc::Global;
@@ -40,10 +40,7 @@ fn receive<'a, 't>(
     }
     if let Some(rest) = after(Mark::LeftParen, tokens) {
         let inner = receive(alloc, limit - 1, rest)?;
-        let (_, rest) = match needed(Mark::RightParen, inner.rest) {
-            Ok(past) => past,
-            Err(fault) => return abandon(inner, fault),
-        };
+        let ((_, rest), inner) = beside(needed(Mark::RightParen, inner.rest), inner)?;
         return Ok(Found {
             value: Expr::Paren(boxed(alloc, inner.value)?),
             height: inner.height + 1,
@@ -70,19 +67,11 @@ fn received<'a, 't>(
 {
     if let Some(rest) = after(Mark::Define, tokens) {
         let value = receive(alloc, limit, rest)?;
-        return Ok(Found {
-            value: Communication::Define(names, value.value),
-            height: value.height,
-            rest: value.rest,
-        });
+        return Ok(value.map(|value| Communication::Define(names, value)));
     }
     let (_, rest) = needed(Mark::Assign, tokens)?;
     let value = receive(alloc, limit, rest)?;
-    Ok(Found {
-        value: Communication::Assign(names, value.value),
-        height: value.height,
-        rest: value.rest,
-    })
+    Ok(value.map(|value| Communication::Assign(names, value)))
 }
 
 /// What follows the first name of a receive in a select.
@@ -111,11 +100,7 @@ fn alone<'a, 't>(value: Found<'a, 't, Expr>) -> Result<Found<'a, 't, Communicati
     ensures fits { IfOk result (λ f. f.height ≡ value.entry.height) }
 {
     if is_receive(&value.value) {
-        return Ok(Found {
-            value: Communication::Receive(value.value),
-            height: value.height,
-            rest: value.rest,
-        });
+        return Ok(value.map(|value| Communication::Receive(value)));
     }
     let left = value.rest.len();
     abandon(value, ReadError::Wrong { left })
@@ -133,10 +118,7 @@ fn send<'a, 't>(
     ensures gives { Finds comm_of tokens.now result (comm_sent limit (found_of tree_of channel.entry)) }
     ensures fits { AtMost limit result }
 {
-    let value = match expr(alloc, 1, limit, tokens) {
-        Ok(value) => value,
-        Err(fault) => return abandon(channel, fault),
-    };
+    let (value, channel) = beside(expr(alloc, 1, limit, tokens), channel)?;
     Ok(Found {
         value: Communication::Send(channel.value, value.value),
         height: channel.height.max(value.height),

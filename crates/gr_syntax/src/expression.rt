@@ -9,8 +9,8 @@ ghost use Rattle.gr_syntax.specs.Views.{Gives, Finds, found_of, AtMost};
 
 use crate::joining::{join, precedence};
 use crate::look::{
-    Found, ReadError, Tokens, abandon, after, binary, boxed, boxed_copy, copy, fitted, is_the_make,
-    needed, next, push, unary,
+    Found, ReadError, Tokens, abandon, after, beside, binary, boxed, boxed_copy, copy, fitted,
+    is_the_make, needed, next, push, unary,
 };
 use crate::types::type_tree;
 use gr_scan::token::{Kind, Mark};
@@ -64,14 +64,8 @@ fn sized<'a, 't>(
     ensures gives { Finds tree_of tokens.now result (size_at (expr_at below) (found_of type_of made.entry)) }
     ensures fits { AtMost (below + 1) result }
 {
-    let size = match expr(alloc, 1, below, tokens) {
-        Ok(size) => size,
-        Err(fault) => return abandon(made, fault),
-    };
-    let rest = match close(size.rest) {
-        Ok(rest) => rest,
-        Err(fault) => return abandon((made, size), fault),
-    };
+    let (size, made) = beside(expr(alloc, 1, below, tokens), made)?;
+    let (rest, (made, size)) = beside(close(size.rest), (made, size))?;
     let height = made.height.max(size.height) + 1;
     let Ok(type_tree) = boxed(alloc, made.value) else {
         return abandon(size, ReadError::Memory);
@@ -100,10 +94,7 @@ fn make<'a, 't>(
 {
     let made = type_tree(alloc, below, tokens)?;
     let Some(rest) = after(Mark::Comma, made.rest) else {
-        let (_, rest) = match needed(Mark::RightParen, made.rest) {
-            Ok(past) => past,
-            Err(fault) => return abandon(made, fault),
-        };
+        let ((_, rest), made) = beside(needed(Mark::RightParen, made.rest), made)?;
         return Ok(Found {
             value: Expr::Make(made.value),
             height: made.height + 1,
@@ -196,10 +187,7 @@ fn paren<'a, 't>(
     ensures fits { AtMost (below + 1) result }
 {
     let inner = expr(alloc, 1, below, tokens)?;
-    let (_, rest) = match needed(Mark::RightParen, inner.rest) {
-        Ok(past) => past,
-        Err(fault) => return abandon(inner, fault),
-    };
+    let ((_, rest), inner) = beside(needed(Mark::RightParen, inner.rest), inner)?;
     Ok(Found {
         value: Expr::Paren(boxed(alloc, inner.value)?),
         height: inner.height + 1,
@@ -348,10 +336,7 @@ pub(crate) fn arguments<'a, 't>(
         });
     }
     let listed = exprs(alloc, limit, true, tokens)?;
-    let (_, rest) = match needed(Mark::RightParen, listed.rest) {
-        Ok(past) => past,
-        Err(fault) => return abandon(listed, fault),
-    };
+    let ((_, rest), listed) = beside(needed(Mark::RightParen, listed.rest), listed)?;
     Ok(Found {
         value: listed.value,
         height: listed.height,

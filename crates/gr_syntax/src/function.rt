@@ -9,7 +9,9 @@ ghost use Rattle.gr_syntax.specs.FileReading.{groups_at, parameters_at, result_a
 ghost use Rattle.gr_syntax.specs.FileReading.{file_at};
 ghost use Rattle.gr_syntax.specs.Views.{Gives, Finds};
 
-use crate::look::{Found, ReadError, Tokens, abandon, after, copy, name, names, needed, push};
+use crate::look::{
+    Found, ReadError, Tokens, abandon, after, beside, copy, name, names, needed, push,
+};
 use crate::statement::block;
 use crate::types::type_tree;
 use gr_scan::token::Mark;
@@ -119,14 +121,11 @@ fn function<'a, 't>(
     let (place, rest) = needed(Mark::Func, tokens)?;
     let (func_name, rest) = name(rest)?;
     let parameters = parameters(alloc, limit, rest)?;
-    let result = match result(alloc, limit, parameters.rest) {
-        Ok(result) => result,
-        Err(fault) => return abandon(parameters, fault),
-    };
-    let block = match block(alloc, limit, result.rest) {
-        Ok(block) => block,
-        Err(fault) => return abandon((parameters, result), fault),
-    };
+    let (result, parameters) = beside(result(alloc, limit, parameters.rest), parameters)?;
+    let (block, (parameters, result)) = beside(
+        block(alloc, limit, result.rest),
+        (parameters, result),
+    )?;
     let Ok(name) = copy(alloc, func_name) else {
         return abandon((parameters, result, block), ReadError::Memory);
     };

@@ -11,7 +11,7 @@ ghost use Rattle.gr_syntax.specs.Views.{Gives, Finds, Continues, AtMost};
 ghost use Rattle.gr_syntax.specs.StatementViews.{SeesRange};
 
 use crate::expression::expr;
-use crate::look::{Found, ReadError, Tokens, abandon, after, boxed, needed, next};
+use crate::look::{Found, ReadError, Tokens, after, beside, boxed, needed, next};
 use crate::simple::simple;
 use gr_scan::token::{Mark, Place};
 use gr_tree::{Expr, ForHead, Header, IfHead, RangeTarget};
@@ -68,10 +68,7 @@ fn condition_of_if<'a, 't>(
     ensures gives { Finds if_of tokens.now result (tested limit (optional heading_of init) height) }
     ensures fits { AtMost limit result }
 {
-    let condition = match expr(alloc, 1, limit, tokens) {
-        Ok(condition) => condition,
-        Err(fault) => return abandon(init, fault),
-    };
+    let (condition, init) = beside(expr(alloc, 1, limit, tokens), init)?;
     Ok(Found {
         value: IfHead {
             init,
@@ -96,20 +93,13 @@ fn if_from<'a, 't>(
     ensures fits { AtMost limit result }
 {
     if let Some(_) = after(Mark::LeftBrace, first.rest) {
-        return Ok(Found {
-            value: IfHead {
-                init: None,
-                condition: first.value,
-            },
-            height: first.height,
-            rest: first.rest,
-        });
+        return Ok(first.map(|condition| IfHead {
+            init: None,
+            condition,
+        }));
     }
     let init = heading(alloc, limit, true, place, first)?;
-    let (_, rest) = match needed(Mark::Semicolon, init.rest) {
-        Ok(past) => past,
-        Err(fault) => return abandon(init, fault),
-    };
+    let ((_, rest), init) = beside(needed(Mark::Semicolon, init.rest), init)?;
     condition_of_if(alloc, limit, Some(init.value), init.height, rest)
 }
 
@@ -145,11 +135,7 @@ fn range<'a, 't>(
     ensures fits { AtMost limit result }
 {
     let channel = expr(alloc, 1, limit, tokens)?;
-    Ok(Found {
-        value: ForHead::Range(target, channel.value),
-        height: channel.height,
-        rest: channel.rest,
-    })
+    Ok(channel.map(|channel| ForHead::Range(target, channel)))
 }
 
 /// The condition of a for of three parts, if it has one.
@@ -171,11 +157,7 @@ fn condition_of_for<'a, 't>(
         });
     }
     let condition = expr(alloc, 1, limit, tokens)?;
-    Ok(Found {
-        value: Some(condition.value),
-        height: condition.height,
-        rest: condition.rest,
-    })
+    Ok(condition.map(|condition| Some(condition)))
 }
 
 /// The post statement of a for, if it has one.
@@ -199,11 +181,7 @@ fn post<'a, 't>(
     let place = place(tokens)?;
     let first = expr(alloc, 1, limit, tokens)?;
     let post = heading(alloc, limit, false, place, first)?;
-    Ok(Found {
-        value: Some(post.value),
-        height: post.height,
-        rest: post.rest,
-    })
+    Ok(post.map(|post| Some(post)))
 }
 
 /// The condition and the third part of a for, after its first semicolon.
@@ -220,18 +198,9 @@ fn parts<'a, 't>(
     ensures gives { Finds for_of tokens.now result (parts_at limit (optional heading_of init) height) }
     ensures fits { AtMost limit result }
 {
-    let condition = match condition_of_for(alloc, limit, tokens) {
-        Ok(condition) => condition,
-        Err(fault) => return abandon(init, fault),
-    };
-    let (_, rest) = match needed(Mark::Semicolon, condition.rest) {
-        Ok(past) => past,
-        Err(fault) => return abandon((init, condition), fault),
-    };
-    let post = match post(alloc, limit, rest) {
-        Ok(post) => post,
-        Err(fault) => return abandon((init, condition), fault),
-    };
+    let (condition, init) = beside(condition_of_for(alloc, limit, tokens), init)?;
+    let ((_, rest), held) = beside(needed(Mark::Semicolon, condition.rest), (init, condition))?;
+    let (post, (init, condition)) = beside(post(alloc, limit, rest), held)?;
     Ok(Found {
         value: ForHead::Loop(init, condition.value, post.value),
         height: height.max(condition.height.max(post.height)),
@@ -273,10 +242,7 @@ fn for_parts<'a, 't>(
     ensures fits { AtMost limit result }
 {
     let init = heading(alloc, limit, true, place, first)?;
-    let (_, rest) = match needed(Mark::Semicolon, init.rest) {
-        Ok(past) => past,
-        Err(fault) => return abandon(init, fault),
-    };
+    let ((_, rest), init) = beside(needed(Mark::Semicolon, init.rest), init)?;
     parts(alloc, limit, Some(init.value), init.height, rest)
 }
 

@@ -1,6 +1,6 @@
 //! Looking at the first of the tokens that are left.
 
-ghost use Rattle.std.specs.Prelude.{◌≡◌, ◌<◌, ◌++◌, ◌∷◌, [], IfSome, IfOk, Err, length};
+ghost use Rattle.std.specs.Prelude.{◌≡◌, ◌<◌, ◌++◌, ◌∷◌, [], IfSome, IfOk, MatchResult, Ok, Err, length};
 ghost use Rattle.gr_scan.specs.Tokens.{tokens_of};
 ghost use Rattle.gr_tree.specs.Exprs.{names_of};
 ghost use Rattle.gr_syntax.specs.Grammar.{after_mark, is_make};
@@ -49,9 +49,40 @@ pub(crate) struct Found<'a, 't, T> {
     pub(crate) rest: Tokens<'a, 't>,
 }
 
+impl<'a, 't, T: Drop> Found<'a, 't, T> {
+    /// What is made of the value; its height and the tokens after it stay.
+    pub(crate) fn map<U: Drop, F: FnOnce(T) -> U>(self, make: F) -> Found<'a, 't, U>
+        requires { F.pre make self.value }
+        ensures value { F.post make self.entry.value result.value }
+        ensures height { result.height ≡ self.entry.height }
+        ensures rest { result.rest ≡ self.entry.rest }
+    {
+        let Found {
+            value,
+            height,
+            rest,
+        } = self;
+        Found {
+            value: make(value),
+            height,
+            rest,
+        }
+    }
+}
+
+// A proof sees a tree that is dropped by `beside` or `abandon` as one value. Where `?` drops a tree, the proof takes it apart.
+
+/// What was read, beside what is held till then; that is dropped where nothing could be read.
+pub(crate) fn beside<T: Drop, H: Drop, E>(read: Result<T, E>, held: H) -> Result<(T, H), E>
+    ensures { MatchResult read (λ x. result ≡ Ok (x, held)) (λ e. result ≡ Err e) }
+{
+    match read {
+        Ok(read) => Ok((read, held)),
+        Err(error) => Err(error),
+    }
+}
+
 /// This error; what was read before it is dropped.
-///
-/// A proof sees a tree that is dropped by this call as one value. Where `?` drops a tree, the proof takes it apart.
 pub(crate) fn abandon<V: Drop, T, E>(_read: V, error: E) -> Result<T, E>
     ensures { result ≡ Err error }
 {

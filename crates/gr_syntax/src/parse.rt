@@ -33,7 +33,7 @@ pub enum ParseError {
     Memory,
 }
 
-/// Whether this mark begins something of Go that the language leaves out.
+/// Whether this mark begins something of Go that the language leaves out. `var` does so outside functions, and `func` inside.
 fn mark_is_left_out(mark: Mark) -> bool
     ensures { result ≡ is_left_out mark }
 {

@@ -8,7 +8,7 @@ ghost use Rattle.gr_syntax.specs.Views.{Finds, AtMost};
 
 use crate::assembly::select_stmt;
 use crate::communication::communication;
-use crate::look::{Found, ReadError, Tokens, abandon, after, needed, push};
+use crate::look::{Found, ReadError, Tokens, abandon, after, beside, needed, push};
 use crate::statement::list;
 use gr_scan::token::{Mark, Place};
 use gr_tree::{Clause, Stmt};
@@ -83,10 +83,7 @@ pub(crate) fn select<'a, 't>(
 {
     let (_, rest) = needed(Mark::LeftBrace, tokens)?;
     let found = clauses(alloc, below, rest)?;
-    let (_, rest) = match needed(Mark::RightBrace, found.rest) {
-        Ok(past) => past,
-        Err(fault) => return abandon(found, fault),
-    };
+    let ((_, rest), found) = beside(needed(Mark::RightBrace, found.rest), found)?;
     Ok(Found {
         value: select_stmt(place, found.value),
         height: found.height + 1,

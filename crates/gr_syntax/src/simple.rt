@@ -9,7 +9,7 @@ ghost use Rattle.gr_syntax.specs.SimpleReading.{simple_named, simple_after};
 ghost use Rattle.gr_syntax.specs.Views.{Finds, Continues, AtMost, Sees};
 
 use crate::expression::{expr, exprs};
-use crate::look::{Found, ReadError, Tokens, abandon, after, fitted, names, needed};
+use crate::look::{Found, ReadError, Tokens, abandon, after, beside, fitted, names, needed};
 use crate::opening::{Joint, first_joint};
 use gr_scan::token::Mark;
 use gr_tree::{BinaryOp, Expr, Simple};
@@ -137,10 +137,7 @@ fn send<'a, 't>(
     ensures gives { Finds simple_of tokens.now result (sent_at limit (tree_of channel, height, [])) }
     ensures fits { AtMost limit result }
 {
-    let value = match expr(alloc, 1, limit, tokens) {
-        Ok(value) => value,
-        Err(fault) => return abandon(channel, fault),
-    };
+    let (value, channel) = beside(expr(alloc, 1, limit, tokens), channel)?;
     let height = height.max(value.height) + 1;
     if height > limit {
         return abandon((channel, value), ReadError::TooHigh { left: tokens.len() });

@@ -13,7 +13,7 @@ use crate::action::{break_from, continue_from, go, returned, var};
 use crate::assembly::{acts, block_stmt, for_stmt, if_else, if_else_if, if_stmt, plain};
 use crate::expression::expr;
 use crate::heading::{for_head, if_head, place};
-use crate::look::{Found, ReadError, Tokens, abandon, after, boxed, fitted, needed, push};
+use crate::look::{Found, ReadError, Tokens, abandon, after, beside, boxed, fitted, needed, push};
 use crate::opening::{Keyword, ends, first_keyword, past_semicolon, stops};
 use crate::selecting::select;
 use gr_scan::token::{Mark, Place};
@@ -162,10 +162,7 @@ pub(crate) fn block<'a, 't>(
 {
     let (_, rest) = needed(Mark::LeftBrace, tokens)?;
     let body = list(alloc, limit, rest)?;
-    let (end, rest) = match needed(Mark::RightBrace, body.rest) {
-        Ok(past) => past,
-        Err(fault) => return abandon(body, fault),
-    };
+    let ((end, rest), body) = beside(needed(Mark::RightBrace, body.rest), body)?;
     Ok(Found {
         value: (body.value, end),
         height: body.height,
@@ -213,10 +210,7 @@ fn otherwise<'a, 't>(
     ensures fits { AtMost (below + 1) result }
 {
     if after(Mark::If, tokens).is_some() {
-        let inner = match statement(alloc, below, tokens) {
-            Ok(inner) => inner,
-            Err(fault) => return abandon((head, body), fault),
-        };
+        let (inner, (head, body)) = beside(statement(alloc, below, tokens), (head, body))?;
         let Ok(otherwise) = boxed(alloc, inner.value) else {
             return abandon((head, body), ReadError::Memory);
         };
@@ -226,10 +220,7 @@ fn otherwise<'a, 't>(
             rest: inner.rest,
         });
     }
-    let inner = match block(alloc, below, tokens) {
-        Ok(inner) => inner,
-        Err(fault) => return abandon((head, body), fault),
-    };
+    let (inner, (head, body)) = beside(block(alloc, below, tokens), (head, body))?;
     Ok(Found {
         value: if_else(place, head.value, body.value.0, inner.value.0),
         height: head.height.max(body.height.max(inner.height)) + 1,
@@ -251,10 +242,7 @@ fn branch<'a, 't>(
     ensures fits { AtMost (below + 1) result }
 {
     let head = if_head(alloc, below, tokens)?;
-    let body = match block(alloc, below, head.rest) {
-        Ok(body) => body,
-        Err(fault) => return abandon(head, fault),
-    };
+    let (body, head) = beside(block(alloc, below, head.rest), head)?;
     let Some(rest) = after(Mark::Else, body.rest) else {
         return Ok(Found {
             value: if_stmt(place, head.value, body.value.0),
@@ -279,10 +267,7 @@ fn looped<'a, 't>(
     ensures fits { AtMost (below + 1) result }
 {
     let head = for_head(alloc, below, tokens)?;
-    let body = match block(alloc, below, head.rest) {
-        Ok(body) => body,
-        Err(fault) => return abandon(head, fault),
-    };
+    let (body, head) = beside(block(alloc, below, head.rest), head)?;
     Ok(Found {
         value: for_stmt(place, head.value, body.value.0),
         height: head.height.max(body.height) + 1,

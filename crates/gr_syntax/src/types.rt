@@ -5,7 +5,7 @@ ghost use Rattle.gr_tree.specs.Exprs.{type_of};
 ghost use Rattle.gr_syntax.specs.Reading.{channel_at, both_at, paren_type_at, plain_type_at, type_at};
 ghost use Rattle.gr_syntax.specs.Views.{Finds, AtMost};
 
-use crate::look::{Found, ReadError, Tokens, abandon, after, boxed, copy, name, needed};
+use crate::look::{Found, ReadError, Tokens, after, beside, boxed, copy, name, needed};
 use gr_scan::token::Mark;
 use gr_tree::{Direction, TypeTree};
 use std::alloc::Global;
@@ -70,10 +70,7 @@ fn paren_type<'a, 't>(
     ensures fits { AtMost (below + 1) result }
 {
     let inner = type_tree(alloc, below, tokens)?;
-    let (_, rest) = match needed(Mark::RightParen, inner.rest) {
-        Ok(past) => past,
-        Err(fault) => return abandon(inner, fault),
-    };
+    let ((_, rest), inner) = beside(needed(Mark::RightParen, inner.rest), inner)?;
     Ok(Found {
         value: TypeTree::Paren(boxed(alloc, inner.value)?),
         height: inner.height + 1,
