@@ -6,7 +6,8 @@ ghost use Rattle.gr_exprs.specs.Signatures.{sign_of, signs_of};
 ghost use Rattle.gr_exprs.specs.Tables.{block_of, Finds};
 ghost use Rattle.gr_exprs.specs.FunctionNumbers as numbers_spec;
 
-use crate::names::{NameTable, copy, is_blank};
+use crate::bytes::copy;
+use crate::names::{NameTable, is_blank};
 use crate::types::Signature;
 use std::alloc::{AllocError, Global};
 

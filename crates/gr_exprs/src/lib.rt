@@ -1,6 +1,7 @@
 //! What an expression is, where variables and functions are in scope: its type and its term, or the rule that it breaks.
 #![tactic(auto)]
 
+pub mod bytes;
 pub mod calls;
 pub mod expressions;
 pub mod functions;

@@ -1,5 +1,5 @@
 //! Names, and tables of them.
-ghost use Rattle.std.specs.Prelude.{◌≡◌, ◌++◌, ◌∷◌, [], map, IfOk, OnOk, None};
+ghost use Rattle.std.specs.Prelude.{◌≡◌, ◌++◌, ◌∷◌, [], map, OnOk, None};
 ghost use Rattle.gr_typing.specs.Names as spec;
 ghost use Rattle.gr_typing.specs.Scopes.{in_block};
 ghost use Rattle.gr_exprs.specs.Tables.{block_of};
@@ -42,13 +42,6 @@ pub fn is_blank(name: &[u8]) -> bool
     ensures { result ≡ spec.is_blank name.now }
 {
     name == b"_".as_slice()
-}
-
-/// A copy of a name.
-pub fn copy(alloc: Global, name: &[u8]) -> Result<Vec<u8>, AllocError>
-    ensures { IfOk result (λ v. v.items ≡ name.now) }
-{
-    name.to_vec(alloc)
 }
 
 impl NameTable {

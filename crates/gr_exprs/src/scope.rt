@@ -5,7 +5,8 @@ ghost use Rattle.gr_typing.specs.Scopes as spec;
 ghost use Rattle.gr_program.specs.TypeViews.{ty_of, declared_of};
 ghost use Rattle.gr_exprs.specs.Tables.{scope_of, blocks_of};
 
-use crate::names::{NameTable, copy, is_blank};
+use crate::bytes::copy;
+use crate::names::{NameTable, is_blank};
 use gr_program::{Type, Variable};
 use std::alloc::{AllocError, Global};
 

@@ -10,9 +10,11 @@ use Rattle.gr_tree.specs.declared.stmt.Clause.TheVariants as clauses
 use Rattle.gr_types.specs.declared.headings.IfParts as code_if
 use Rattle.gr_types.specs.declared.headings.LoopParts as code_loop
 use Rattle.gr_types.specs.declared.headings.RangeParts as code_range
+use Rattle.gr_types.specs.declared.headings.ForParts as code_for
+use Rattle.gr_types.specs.declared.headings.ForParts.TheVariants as heads
 use Rattle.gr_program.specs.declared.program.Stmt as checked_stmt
 use Rattle.gr_program.specs.declared.program.Case as code_case
-use Rattle.gr_program.specs.Programs.{Expr, Opening, Does, Block, If, For, Range, Select, Stmts, stop, then, joined, Cases, default_case}
+use Rattle.gr_program.specs.Programs.{Expr, Opening, Stmt, Does, Block, If, For, Range, Select, Stmts, stop, then, joined, Cases, default_case}
 use Rattle.gr_program.specs.Views.{expr_of, opening_of, stmt_of, stmts_of, case_on}
 use Rattle.gr_typing.specs.Scopes.{Scope, entered, left}
 use Rattle.gr_typing.specs.Contexts.{Loop, Choice, Context, functions, inside}
@@ -70,18 +72,25 @@ else_in c place otherwise t s = body_in c (entered s) otherwise >>= λ o. alone 
 abbrev pub else_if_in : Context → Place → Statement → Tested → Scope → Option Checked
 else_if_in c place otherwise t s = statement_in c s None otherwise >>= λ o. alone (If place t.0.0 t.0.1 t.1 o.0) (left o.1)
 
--- loops whose headings are known; the contexts are those of their bodies
-abbrev pub loop_in : Context → Place → LoopHead → Statements → Scope → Option Checked
-loop_in c place h body s = body_in c (entered s) body >>= λ b. alone (For place h.0 h.1.0 h.1.1 b.0) (left (left b.1))
+-- a loop whose heading is known, by what it makes of the statements of its body; the context is that of the body
+abbrev pub loop_in : Context → (Stmts → Stmt) → Statements → Scope → Option Checked
+loop_in c form body s = body_in c (entered s) body >>= λ b. alone (form b.0) (left (left b.1))
 
-abbrev pub range_in : Context → Place → Expr × Option ℕ → Statements → Scope → Option Checked
-range_in c place h body s = body_in c (entered s) body >>= λ b. alone (Range place h.1 h.0 b.0) (left (left b.1))
+abbrev pub repeats : Place → LoopHead → Stmts → Stmt
+repeats place h body = For place h.0 h.1.0 h.1.1 body
+
+abbrev pub ranges : Place → Expr × Option ℕ → Stmts → Stmt
+ranges place h body = Range place h.1 h.0 body
+
+abbrev pub repeated_by : Place → code_for.ForParts → Stmts → Stmt
+repeated_by place (heads.Loop p) body = repeats place (loop_parts_of p) body
+repeated_by place (heads.Range p) body = ranges place (range_parts_of p) body
 
 abbrev pub for_in : Context → Scope → Option (List ℕ) → Place → statements.ForHead → Statements → Option Checked
 for_in c s label place (statements.Loop init condition post) body =
-    for_parts (functions c) (entered s) init condition post >>= λ h. loop_in (inside (Loop label) c) place h.0 body h.1
+    for_parts (functions c) (entered s) init condition post >>= λ h. loop_in (inside (Loop label) c) (repeats place h.0) body h.1
 for_in c s label place (statements.Range target e) body =
-    range_parts (functions c) s target e >>= λ h. range_in (inside (Loop label) c) place h.0 body h.1
+    range_parts (functions c) s target e >>= λ h. loop_in (inside (Loop label) c) (ranges place h.0) body h.1
 
 abbrev pub select_in : Context → Scope → Option (List ℕ) → Place → Clauses → Option Checked
 select_in c s label place all =

@@ -18,8 +18,8 @@ use crate::labels::{LabelError, UnfitLabel, unfit_label};
 use crate::outlines::Outline;
 use crate::refusal::{CheckError, refused};
 use crate::statements::body;
+use gr_exprs::bytes::copy;
 use gr_exprs::functions::Functions;
-use gr_exprs::names::copy;
 use gr_exprs::refusal::{RefusalCode, RuleError};
 use gr_exprs::scope::Scope;
 use gr_program as checked;
@@ -28,6 +28,7 @@ use gr_program::order::is_in_order;
 use gr_tree::Stmt;
 use std::alloc::Global;
 
+/// The code of what is wrong with a label.
 fn label_code(fault: LabelError) -> RefusalCode
     ensures { result ≡ spec_codes.label_code fault }
 {

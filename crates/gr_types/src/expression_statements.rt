@@ -11,10 +11,10 @@ ghost use Rattle.gr_types.specs.Evaluating as parts;
 ghost use Rattle.gr_exprs.specs.Checking.{Agrees, meaning_of, called_of};
 
 use crate::communications::receive_of;
+use gr_exprs::bytes::copy;
 use gr_exprs::calls::{Called, call, resolve};
 use gr_exprs::expressions::{call_in, find, find_all};
 use gr_exprs::functions::Functions;
-use gr_exprs::names::copy;
 use gr_exprs::operands::{Operand, as_channel, with_type};
 use gr_exprs::refusal::{RefusalCode, RuleError};
 use gr_exprs::scope::Scope;

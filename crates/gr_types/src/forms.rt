@@ -4,10 +4,10 @@ ghost use Rattle.gr_tree.specs.Statements.{optional};
 ghost use Rattle.gr_program.specs.Programs as pure;
 ghost use Rattle.gr_program.specs.Views.{expr_of, opening_of, stmt_of, stmts_of, case_on};
 ghost use Rattle.gr_types.specs.ActViews.{awaited_of};
-ghost use Rattle.gr_types.specs.StatementParts.{made_of};
+ghost use Rattle.gr_types.specs.StatementParts.{made_of, repeated_by};
 
 use crate::communications::Awaited;
-use crate::headings::{IfParts, LoopParts, RangeParts};
+use crate::headings::{ForParts, IfParts, LoopParts, RangeParts};
 use gr_program as checked;
 use gr_program::Case;
 use gr_scan::token::Place;
@@ -38,23 +38,21 @@ pub fn conditional(
     checked::forms::conditional(place, init, condition, body, otherwise)
 }
 
-pub fn repeated(place: Place, parts: LoopParts, body: Vec<checked::Stmt>) -> checked::Stmt
-    ensures { stmt_of result ≡ pure.For place (optional opening_of parts.init) (optional expr_of parts.condition)
-        (optional opening_of parts.post) (stmts_of body.items) }
+pub fn repeated(place: Place, parts: ForParts, body: Vec<checked::Stmt>) -> checked::Stmt
+    ensures { stmt_of result ≡ repeated_by place parts (stmts_of body.items) }
 {
-    let LoopParts {
-        init,
-        condition,
-        post,
-    } = parts;
-    checked::forms::repeated(place, init, condition, post, body)
-}
-
-pub fn ranged(place: Place, parts: RangeParts, body: Vec<checked::Stmt>) -> checked::Stmt
-    ensures { stmt_of result ≡ pure.Range place parts.target (expr_of parts.channel) (stmts_of body.items) }
-{
-    let RangeParts { target, channel } = parts;
-    checked::forms::ranged(place, target, channel, body)
+    match parts {
+        ForParts::Loop(
+            LoopParts {
+                init,
+                condition,
+                post,
+            },
+        ) => checked::forms::repeated(place, init, condition, post, body),
+        ForParts::Range(RangeParts { target, channel }) => {
+            checked::forms::ranged(place, target, channel, body)
+        }
+    }
 }
 
 pub fn awaited_case(awaited: Awaited, body: Vec<checked::Stmt>) -> Case

@@ -50,6 +50,13 @@ pub struct RangeParts {
     pub channel: checked::Expr,
 }
 
+/// What stands between `for` and its block.
+#[derive(Drop)]
+pub enum ForParts {
+    Loop(LoopParts),
+    Range(RangeParts),
+}
+
 fn header_act(
     alloc: Global,
     functions: &Functions,

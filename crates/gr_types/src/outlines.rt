@@ -14,8 +14,9 @@ ghost use Rattle.gr_types.specs.Checking.{Settles};
 
 use crate::parameters::{Parameters, result_type, take_groups};
 use crate::refusal::{CheckError, refused};
+use gr_exprs::bytes::copy;
 use gr_exprs::functions::Functions;
-use gr_exprs::names::{copy, is_predeclared};
+use gr_exprs::names::is_predeclared;
 use gr_exprs::refusal::{RefusalCode, RuleError};
 use gr_exprs::scope::Scope;
 use gr_exprs::types::Signature;

@@ -12,7 +12,7 @@ ghost use Rattle.gr_types.specs.Checking.{Settles};
 use crate::acts::act;
 use crate::context::{Around, Context, Nest};
 use crate::forms;
-use crate::headings::{IfParts, LoopParts, RangeParts, if_parts, loop_parts, range_parts};
+use crate::headings::{ForParts, IfParts, if_parts, loop_parts, range_parts};
 use crate::refusal::{CheckError, refused};
 use crate::selects::{first_error, has_at_most_one_default, placed_awaits};
 use gr_exprs::refusal::{RefusalCode, RuleError};
@@ -210,6 +210,7 @@ fn if_else_if(
     Ok(forms::conditional(place, parts, steps, otherwise))
 }
 
+/// A for, after its label if it has one.
 #[cycle(checking)]
 fn for_step(
     alloc: Global,
@@ -231,11 +232,11 @@ fn for_step(
         ForHead::Loop(init, condition, post) => {
             scope.enter(alloc)?;
             let parts = loop_parts(alloc, functions, scope, place, init, condition, post)?;
-            loop_step(alloc, &inner, scope, place, parts, stmts)
+            loop_step(alloc, &inner, scope, place, ForParts::Loop(parts), stmts)
         }
         ForHead::Range(target, channel) => {
             let parts = range_parts(alloc, functions, scope, place, target, channel)?;
-            range_step(alloc, &inner, scope, place, parts, stmts)
+            loop_step(alloc, &inner, scope, place, ForParts::Range(parts), stmts)
         }
     }
 }
@@ -247,11 +248,11 @@ fn loop_step(
     context: &Context,
     scope: &mut Scope,
     place: Place,
-    parts: LoopParts,
+    parts: ForParts,
     stmts: &[Stmt],
 ) -> Result<checked::Stmt, CheckError>
     ensures { Settles (λ s. (pieces.only_stmt s, scope_of scope.new)) result
-        (pieces.loop_in (context_of context.now) place (pieces.loop_parts_of parts) (statements_of stmts.now)
+        (pieces.loop_in (context_of context.now) (pieces.repeated_by place parts) (statements_of stmts.now)
         (scope_of scope.old)) }
 {
     scope.enter(alloc)?;
@@ -259,27 +260,6 @@ fn loop_step(
     scope.leave(alloc);
     scope.leave(alloc);
     Ok(forms::repeated(place, parts, steps))
-}
-
-/// A range whose heading is known; the context is that of its body.
-#[cycle(checking)]
-fn range_step(
-    alloc: Global,
-    context: &Context,
-    scope: &mut Scope,
-    place: Place,
-    parts: RangeParts,
-    stmts: &[Stmt],
-) -> Result<checked::Stmt, CheckError>
-    ensures { Settles (λ s. (pieces.only_stmt s, scope_of scope.new)) result
-        (pieces.range_in (context_of context.now) place (pieces.range_parts_of parts) (statements_of stmts.now)
-        (scope_of scope.old)) }
-{
-    scope.enter(alloc)?;
-    let steps = body(alloc, context, scope, stmts)?;
-    scope.leave(alloc);
-    scope.leave(alloc);
-    Ok(forms::ranged(place, parts, steps))
 }
 
 #[cycle(checking)]
