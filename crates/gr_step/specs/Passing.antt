@@ -1,9 +1,12 @@
 -- Goroutines that go on with what arrives, and what the change of a step tells that reached beyond its goroutine.
-use Rattle.std.specs.Prelude.{◌≡◌, ℕ, List, ◌∷◌, Option, Some, None, false}
+use Rattle.std.specs.Prelude.{◌≡◌, ℕ, Bool, List, ◌∷◌, Option, Some, None, false}
+use Rattle.std.specs.Option.{option_map_or}
 use Rattle.gr_base.specs.declared.names.ChName.{ChName}
 use Rattle.gr_base.specs.declared.kinds.Kind.{Kind}
+use Rattle.gr_base.specs.declared.kinds.Kind.TheVariants.{Pick}
 use Rattle.gr_base.specs.declared.objects.Object.{Object}
 use Rattle.gr_base.specs.declared.objects.Object.TheVariants as objects
+use Rattle.gr_base.specs.declared.values.Value.{Value}
 use Rattle.gr_channels.specs.declared.changes.ChanUndo.{ChanUndo}
 use Rattle.gr_rules.specs.Outcomes.{gives, wrong}
 use Rattle.gr_rules.specs.States.{same_go, updated}
@@ -11,10 +14,13 @@ use Rattle.gr_rules.specs.Attempts.{Operation}
 use Rattle.gr_code.specs.CodeFrames.{ProgramCode}
 use Rattle.gr_code.specs.Goroutines.{CodeGoroutine, Arrival, CanCount, arrived}
 use Rattle.gr_goros.specs.Undoing.{undone, Fits}
+use Rattle.gr_goros.specs.declared.arrivals.Arrival.TheVariants.{Passes, IsMet}
 use Rattle.gr_goros.specs.declared.undo.GoUndo.{GoUndo}
 use Rattle.gr_tables.specs.NamedChannels.{contents_of, withdrawn, Follows, MoreAtGates}
 use Rattle.gr_tables.specs.NamedGoroutines.{At, goroutines_of}
 use Rattle.gr_step.specs.declared.objects.Objects.{Objects}
+use Rattle.gr_step.specs.declared.crossing.Crossing.{Crossing}
+use Rattle.gr_step.specs.declared.turn.Meeting.{Meeting}
 use Rattle.gr_record.specs.Effects.{Effect}
 use Rattle.gr_record.specs.Records.{operation_in, stops, writes_of, reads_of, goroutines_changed, channels_changed, begun_by, made_by, NeedNoFrame, FramesStay}
 
@@ -61,3 +67,7 @@ pub record Exchanges (code : ProgramCode) (n m : List ℕ) (passes meets : Arriv
   pub follows : Follows done changed old.channels new.channels
   pub gates : MoreAtGates names done changed
   pub run : new.run ≡ old.run
+
+-- two goroutines go past a meeting: the kind of the step, or the clause that it picks, and what each of them gets
+abbrev pub crossing : Meeting → Kind → Option (Value × Bool) → Option ℕ → Option (Value × Bool) → Crossing
+crossing m kind got case given = record { kind = option_map_or Pick m.clause kind; passes = Passes m.clause got; meets = IsMet case given }

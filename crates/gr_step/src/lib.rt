@@ -9,6 +9,7 @@ mod choosing;
 mod clauses;
 mod closing;
 mod communicating;
+mod crossing;
 mod ending;
 mod faults;
 mod guard;

@@ -23,6 +23,7 @@ ghost use Rattle.gr_step.specs.Stepping.{event_for, code_for};
 
 use crate::beyond::{exchange, reached_with, with_changes};
 use crate::channels_named::{leave_after, others_awaited, still_to_leave, waits_alone};
+use crate::crossing::Crossing;
 use crate::objects::Objects;
 use crate::turn::Turn;
 use crate::unstepping::{put_back, put_one_back};
@@ -146,15 +147,6 @@ fn prepare_partner(
         return Ok(Partner::Alone(exchange(alloc, contact, go)?));
     }
     Ok(Partner::Selects(prepare_selecting(alloc, contact, channel, go, status)?))
-}
-
-/// How two goroutines go past their communication: the kind of the step, what arrives at the one that takes it, and what
-/// arrives at the one that it meets.
-#[derive(Drop)]
-pub(crate) struct Crossing {
-    pub(crate) kind: Kind,
-    pub(crate) passes: Arrival,
-    pub(crate) meets: Arrival,
 }
 
 impl Objects {

@@ -15,9 +15,8 @@ ghost use Rattle.gr_step.specs.Communicating.{TrialIsSound, Tried};
 ghost use Rattle.gr_step.specs.Stepping.{LeavesRoom, MayMeet, to_receive, MayTry, HasTried};
 
 use crate::beyond::passage;
+use crate::crossing::{Crossing, kind_by};
 use crate::objects::Objects;
-use crate::partners::Crossing;
-use crate::sending::kind_by;
 use crate::touching::{end_read, exit_read, left, moved};
 use crate::turn::Meeting;
 use gr_base::{ChName, Event, Kind, NoMemory, Value};
@@ -51,12 +50,10 @@ impl Objects {
         let Taken::Item(value, undo) = self.channels.take(meeting.channel)? else {
             unreachable!()
         };
-        let kind = kind_by(meeting.clause, Kind::Take);
+        let clause = meeting.clause;
+        let kind = kind_by(clause, Kind::Take);
         let got = Some((value, true));
-        let passes = Arrival::Passes {
-            clause: meeting.clause,
-            got,
-        };
+        let passes = Arrival::Passes { clause, got };
         self.pass(meeting.turn, passes, kind, passage, Some(undo))
     }
 
@@ -83,21 +80,8 @@ impl Objects {
         let Taken::Moved(value, undo) = self.channels.take(meeting.channel)? else {
             unreachable!()
         };
-        let kind = kind_by(meeting.clause, Kind::Take);
         let got = Some((value, true));
-        let passes = Arrival::Passes {
-            clause: meeting.clause,
-            got,
-        };
-        let meets = Arrival::IsMet {
-            clause: case,
-            got: None,
-        };
-        let crossing = Crossing {
-            kind,
-            passes,
-            meets,
-        };
+        let crossing = Crossing::of(meeting, Kind::Take, got, case, None);
         self.exchange(meeting.turn, prepared, undo, crossing)
     }
 
@@ -123,21 +107,8 @@ impl Objects {
         let Taken::Met(value, undo) = self.channels.take(meeting.channel)? else {
             unreachable!()
         };
-        let kind = kind_by(meeting.clause, Kind::Meet);
         let got = Some((value, true));
-        let passes = Arrival::Passes {
-            clause: meeting.clause,
-            got,
-        };
-        let meets = Arrival::IsMet {
-            clause: case,
-            got: None,
-        };
-        let crossing = Crossing {
-            kind,
-            passes,
-            meets,
-        };
+        let crossing = Crossing::of(meeting, Kind::Meet, got, case, None);
         self.exchange(meeting.turn, prepared, undo, crossing)
     }
 
@@ -162,12 +133,10 @@ impl Objects {
             touched: end_read(found),
         };
         let passage = passage(self.alloc, contact)?;
-        let kind = kind_by(meeting.clause, Kind::Closed);
+        let clause = meeting.clause;
+        let kind = kind_by(clause, Kind::Closed);
         let got = Some((zero, false));
-        let passes = Arrival::Passes {
-            clause: meeting.clause,
-            got,
-        };
+        let passes = Arrival::Passes { clause, got };
         self.pass(meeting.turn, passes, kind, passage, None)
     }
 }

@@ -1,8 +1,6 @@
 //! Sends that proceed (Go: Send statements).
 
 ghost use Rattle.std.specs.Prelude.{◌≡◌, ◌<◌, true, false, Some, None, length, IfOk, OnErr, [], ◌∷◌};
-ghost use Rattle.std.specs.Option.{option_map_or};
-ghost use Rattle.gr_base.specs.declared.kinds.Kind.TheVariants.{Pick};
 ghost use Rattle.gr_channels.specs.Objects.{has_any};
 ghost use Rattle.gr_rules.specs.Communications as rules;
 ghost use Rattle.gr_code.specs.Programs.{IsClause};
@@ -17,8 +15,8 @@ ghost use Rattle.gr_step.specs.Communicating.{TrialIsSound, Tried};
 ghost use Rattle.gr_step.specs.Stepping.{LeavesRoom, MayMeet, to_send, MayTry, HasTried};
 
 use crate::beyond::passage;
+use crate::crossing::{Crossing, kind_by};
 use crate::objects::Objects;
-use crate::partners::Crossing;
 use crate::touching::{entered, gate_written};
 use crate::turn::Meeting;
 use gr_base::{ChName, Event, Kind, NoMemory, Value};
@@ -26,16 +24,6 @@ use gr_channels::Offered;
 use gr_goros::Arrival;
 use gr_record::Listing;
 use gr_record::record::{Change, Contact, Operation};
-
-/// The kind of a communication, which may be that of a clause.
-pub(crate) fn kind_by(clause: Option<u32>, kind: Kind) -> Kind
-    ensures { result ≡ option_map_or Pick clause kind }
-{
-    match clause {
-        Some(number) => Kind::Pick(number),
-        None => kind,
-    }
-}
 
 impl Objects {
     /// Hands a value to the first goroutine that waits to receive it. Refused, nothing has changed.
@@ -59,18 +47,8 @@ impl Objects {
         let Ok(Offered::Handed(value, undo)) = self.channels.offer(meeting.channel, value) else {
             unreachable!()
         };
-        let kind = kind_by(meeting.clause, Kind::Hand);
-        let passes = Arrival::Passes {
-            clause: meeting.clause,
-            got: None,
-        };
-        let got = Some((value, true));
-        let meets = Arrival::IsMet { clause: case, got };
-        let crossing = Crossing {
-            kind,
-            passes,
-            meets,
-        };
+        let given = Some((value, true));
+        let crossing = Crossing::of(meeting, Kind::Hand, None, case, given);
         self.exchange(meeting.turn, prepared, undo, crossing)
     }
 
@@ -93,11 +71,9 @@ impl Objects {
         let Offered::Buffered(undo) = self.channels.offer(meeting.channel, value)? else {
             unreachable!()
         };
-        let kind = kind_by(meeting.clause, Kind::Buffer);
-        let passes = Arrival::Passes {
-            clause: meeting.clause,
-            got: None,
-        };
+        let clause = meeting.clause;
+        let kind = kind_by(clause, Kind::Buffer);
+        let passes = Arrival::Passes { clause, got: None };
         self.pass(meeting.turn, passes, kind, passage, Some(undo))
     }
 }

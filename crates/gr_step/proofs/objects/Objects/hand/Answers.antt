@@ -21,11 +21,11 @@ exchange-requires c =
     c.args.meeting.now.channel.now c.args.value c.requires.sound c.at-found.result.now c.at-found.ensures c.requires.waits c.in-Some.receiver.now
     c.in-Some.ensures in
     let ready = rw c.in_ok-copy.ensures at (c.in_ok-prepared.ensures its.m.waits [] (Gate c.in_ok-copy.field-0 ∷ []) its.waits_for (c.gate_written-touched.ensures c.in_ok-copy.field-0)) in
-    can_hand_over (program_in c.args.meeting.now.turn.now.listing.now) c.args.meeting.now.turn.now.event.now c.args.meeting.now.turn.now.number c.args.self.now c.requires.may.acting c.args.meeting.now.clause c.requires.may.clause
+    rw c.of-crossing.ensures (can_hand_over (program_in c.args.meeting.now.turn.now.listing.now) c.args.meeting.now.turn.now.event.now c.args.meeting.now.turn.now.number c.args.self.now c.requires.may.acting c.args.meeting.now.clause c.requires.may.clause
     c.args.meeting.now.channel.now c.args.value c.requires.sound c.at-found.result.now c.at-found.ensures c.requires.waits c.in-Some.receiver.now
     c.in-Some.ensures c.in_ok-prepared.prepared ready (program_code_of c.args.meeting.now.turn.now.listing.now.code.value)
     c.requires.may.coded c.in-Ok-Handed.value c.in-Ok-Handed.undo c.offer.new.self
-    (rw c.in-Ok-Handed.field-0-is at c.in-Ok-Handed.ensures.rule) (rw c.in-Ok-Handed.field-0-is at c.in-Ok-Handed.ensures.back)
+    (rw c.in-Ok-Handed.field-0-is at c.in-Ok-Handed.ensures.rule) (rw c.in-Ok-Handed.field-0-is at c.in-Ok-Handed.ensures.back))
 
 pub returns-clause-ok : goal.returns-clause-ok
 returns-clause-ok c =
@@ -33,7 +33,7 @@ returns-clause-ok c =
     c.args.meeting.now.channel.now c.args.value c.requires.sound c.at-found.result.now c.at-found.ensures c.requires.waits c.in-Some.receiver.now
     c.in-Some.ensures in
     let ready = rw c.in_ok-copy.ensures at (c.in_ok-prepared.ensures its.m.waits [] (Gate c.in_ok-copy.field-0 ∷ []) its.waits_for (c.gate_written-touched.ensures c.in_ok-copy.field-0)) in
-    if_ok c.exchange.result (rw c.kind_by-kind.ensures at (c.exchange.ensures.ok (sends_on c.args.meeting.now.channel.now) []
+    if_ok c.exchange.result (rw c.of-crossing.ensures at (c.exchange.ensures.ok (sends_on c.args.meeting.now.channel.now) []
     (Gate c.args.meeting.now.channel.now ∷ Go c.in-Some.receiver.now.go ∷ map Gate (channels_but (c.args.meeting.now.channel.now ∷ []) its.m.waits)) ready.partner.reached))
     (λ change done. was_handed (program_in c.args.meeting.now.turn.now.listing.now) c.args.meeting.now.turn.now.event.now c.args.meeting.now.turn.now.number c.args.self.now c.requires.may.acting c.args.meeting.now.clause c.requires.may.clause
     c.args.meeting.now.channel.now c.args.value c.requires.sound c.at-found.result.now c.at-found.ensures c.requires.waits c.in-Some.receiver.now
@@ -47,7 +47,7 @@ returns-clause-room c =
     c.args.meeting.now.channel.now c.args.value c.requires.sound c.at-found.result.now c.at-found.ensures c.requires.waits c.in-Some.receiver.now
     c.in-Some.ensures in
     let ready = rw c.in_ok-copy.ensures at (c.in_ok-prepared.ensures its.m.waits [] (Gate c.in_ok-copy.field-0 ∷ []) its.waits_for (c.gate_written-touched.ensures c.in_ok-copy.field-0)) in
-    if_ok c.exchange.result (rw c.kind_by-kind.ensures at (c.exchange.ensures.ok (sends_on c.args.meeting.now.channel.now) []
+    if_ok c.exchange.result (rw c.of-crossing.ensures at (c.exchange.ensures.ok (sends_on c.args.meeting.now.channel.now) []
     (Gate c.args.meeting.now.channel.now ∷ Go c.in-Some.receiver.now.go ∷ map Gate (channels_but (c.args.meeting.now.channel.now ∷ []) its.m.waits)) ready.partner.reached))
     (λ change done. hand_room (program_in c.args.meeting.now.turn.now.listing.now) c.args.meeting.now.turn.now.event.now c.args.meeting.now.turn.now.number c.args.self.now c.requires.may.acting c.args.meeting.now.clause c.requires.may.clause
     c.args.meeting.now.channel.now c.args.value c.requires.sound c.at-found.result.now c.at-found.ensures c.requires.waits c.in-Some.receiver.now

@@ -22,11 +22,11 @@ exchange-requires c =
     c.args.meeting.now.channel.now c.args.zero c.requires.sound c.at-found.result.now c.at-found.ensures c.in-Some.sender.now
     c.in-Some.ensures c.requires.empty in
     let ready = rw c.in_ok-copy.ensures at (c.in_ok-prepared.ensures its.m.waits (Head c.in_ok-copy.field-0 ∷ slot_numbered c.in_ok-copy.field-0 c.at-found.result.now.content.capacity c.at-found.result.now.content.head) (Gate c.in_ok-copy.field-0 ∷ []) its.waits_for (c.exit_read-touched.ensures c.in_ok-copy.field-0)) in
-    can_meet_sender (program_in c.args.meeting.now.turn.now.listing.now) c.args.meeting.now.turn.now.event.now c.args.meeting.now.turn.now.number c.args.self.now c.requires.may.acting c.args.meeting.now.clause c.requires.may.clause
+    rw c.of-crossing.ensures (can_meet_sender (program_in c.args.meeting.now.turn.now.listing.now) c.args.meeting.now.turn.now.event.now c.args.meeting.now.turn.now.number c.args.self.now c.requires.may.acting c.args.meeting.now.clause c.requires.may.clause
     c.args.meeting.now.channel.now c.args.zero c.requires.sound c.at-found.result.now c.at-found.ensures c.in-Some.sender.now
     c.in-Some.ensures c.requires.empty c.in_ok-prepared.prepared ready (program_code_of c.args.meeting.now.turn.now.listing.now.code.value)
     c.requires.may.coded c.in-Met.value c.in-Met.undo c.take.new.self
-    (rw c.in-Met.is at c.in_ok-value.ensures.rule) (rw c.in-Met.is at c.in_ok-value.ensures.back)
+    (rw c.in-Met.is at c.in_ok-value.ensures.rule) (rw c.in-Met.is at c.in_ok-value.ensures.back))
 
 pub returns-clause-ok : goal.returns-clause-ok
 returns-clause-ok c =
@@ -34,7 +34,7 @@ returns-clause-ok c =
     c.args.meeting.now.channel.now c.args.zero c.requires.sound c.at-found.result.now c.at-found.ensures c.in-Some.sender.now
     c.in-Some.ensures c.requires.empty in
     let ready = rw c.in_ok-copy.ensures at (c.in_ok-prepared.ensures its.m.waits (Head c.in_ok-copy.field-0 ∷ slot_numbered c.in_ok-copy.field-0 c.at-found.result.now.content.capacity c.at-found.result.now.content.head) (Gate c.in_ok-copy.field-0 ∷ []) its.waits_for (c.exit_read-touched.ensures c.in_ok-copy.field-0)) in
-    if_ok c.exchange.result (rw c.kind_by-kind.ensures at (c.exchange.ensures.ok (receives_from c.args.meeting.now.channel.now) (Head c.args.meeting.now.channel.now ∷ slot_numbered c.args.meeting.now.channel.now c.at-found.result.now.content.capacity c.at-found.result.now.content.head)
+    if_ok c.exchange.result (rw c.of-crossing.ensures at (c.exchange.ensures.ok (receives_from c.args.meeting.now.channel.now) (Head c.args.meeting.now.channel.now ∷ slot_numbered c.args.meeting.now.channel.now c.at-found.result.now.content.capacity c.at-found.result.now.content.head)
     ((Gate c.args.meeting.now.channel.now ∷ []) ++ Go c.in-Some.sender.now.go ∷ map Gate (channels_but (c.args.meeting.now.channel.now ∷ []) its.m.waits)) ready.partner.reached))
     (λ change done. sender_was_met (program_in c.args.meeting.now.turn.now.listing.now) c.args.meeting.now.turn.now.event.now c.args.meeting.now.turn.now.number c.args.self.now c.requires.may.acting c.args.meeting.now.clause c.requires.may.clause
     c.args.meeting.now.channel.now c.args.zero c.requires.sound c.at-found.result.now c.at-found.ensures c.in-Some.sender.now
@@ -48,7 +48,7 @@ returns-clause-room c =
     c.args.meeting.now.channel.now c.args.zero c.requires.sound c.at-found.result.now c.at-found.ensures c.in-Some.sender.now
     c.in-Some.ensures c.requires.empty in
     let ready = rw c.in_ok-copy.ensures at (c.in_ok-prepared.ensures its.m.waits (Head c.in_ok-copy.field-0 ∷ slot_numbered c.in_ok-copy.field-0 c.at-found.result.now.content.capacity c.at-found.result.now.content.head) (Gate c.in_ok-copy.field-0 ∷ []) its.waits_for (c.exit_read-touched.ensures c.in_ok-copy.field-0)) in
-    if_ok c.exchange.result (rw c.kind_by-kind.ensures at (c.exchange.ensures.ok (receives_from c.args.meeting.now.channel.now) (Head c.args.meeting.now.channel.now ∷ slot_numbered c.args.meeting.now.channel.now c.at-found.result.now.content.capacity c.at-found.result.now.content.head)
+    if_ok c.exchange.result (rw c.of-crossing.ensures at (c.exchange.ensures.ok (receives_from c.args.meeting.now.channel.now) (Head c.args.meeting.now.channel.now ∷ slot_numbered c.args.meeting.now.channel.now c.at-found.result.now.content.capacity c.at-found.result.now.content.head)
     ((Gate c.args.meeting.now.channel.now ∷ []) ++ Go c.in-Some.sender.now.go ∷ map Gate (channels_but (c.args.meeting.now.channel.now ∷ []) its.m.waits)) ready.partner.reached))
     (λ change done. meeting_room (program_in c.args.meeting.now.turn.now.listing.now) c.args.meeting.now.turn.now.event.now c.args.meeting.now.turn.now.number c.args.self.now c.requires.may.acting c.args.meeting.now.clause c.requires.may.clause
     c.args.meeting.now.channel.now c.args.zero c.requires.sound c.at-found.result.now c.at-found.ensures c.in-Some.sender.now
