@@ -1,6 +1,6 @@
 -- Of the goroutines that are ready, those whose next step is local.
 use Rattle.std.proofs.Common.{◌≡◌, ◌+◌, ◌-◌, ◌*◌, ◌<◌, ◌≤◌, ◌%◌, ℕ, zero, suc, arith, Bool, true, false, cond, ◌&&◌, ◌||◌, List, [], ◌∷◌, length, drop, filter, get_or, All, Option, Some, None, refl, sym, ap, subst, ◌∙◌}
-use Rattle.std.specs.Prelude.{slice_get, option_map, Result, Ok, Err, IfOk, IfSome, IfNone}
+use Rattle.std.specs.Prelude.{slice_get, option_map, Result, Ok, Err, IfOk, IfSome, IfNone, OnErr}
 use Rattle.std.specs.List.{AllPairs, AllByRecursion}
 use Rattle.std.specs.declared.cmp.Ordering.TheVariants.{Less}
 use Rattle.std.proofs.lemmas.List.{drop_more, drop_all}
@@ -29,6 +29,11 @@ use Rattle.gr_rollback.specs.Leasing.{GoAlone, IsLentAt, SomeGoesAlone}
 use Rattle.gr_rollback.specs.Machines.{Stands, store_of}
 use Rattle.gr_rollback.specs.Pasts.{Timeline}
 use Rattle.gr_rollback.specs.Readiness.{IsReadyIn}
+
+-- what holds holds where a result is an error
+pub on_err : {T E A : Type 0} (r : Result T E) → A → OnErr r A
+on_err (Ok x) a = tt
+on_err (Err e) a = a
 
 -- a list without those that fail a test
 module _ {A : Type 0} where

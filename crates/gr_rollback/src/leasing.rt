@@ -1,12 +1,13 @@
 //! Steps that a goroutine takes by itself on a copy, and that join the log together.
 
 ghost use Rattle.std.specs.Prelude.{◌≡◌, ◌+◌, ◌<◌, ◌≤◌, ◌↔◌, length, filter, slice_get, get_or, [], IfOk, IfSome, IsTrue, OnOk};
-ghost use Rattle.std.specs.Prelude.{OnErr, option_copied, option_map};
+ghost use Rattle.std.specs.Prelude.{IsOk, List, OnErr, Some, option_copied, option_map, ℕ};
 ghost use Rattle.gr_pool.specs.Goroutines.{IsInOrder};
 ghost use Rattle.gr_program.specs.Programs.{Program as ProgramSeen};
-ghost use Rattle.gr_step.specs.Leasing.{IsLease, IsAsLent, goes_alone, loan_of, program_lent};
+ghost use Rattle.gr_step.specs.Leasing.{IsLease, IsAsLent, goes_alone, loan_of, program_lent, records_led};
 ghost use Rattle.gr_step.specs.Stores.{IsRun, SameListing, contents_at, program_at, state_at, taken_at};
 ghost use Rattle.gr_depend.specs.Logs.{records_of};
+ghost use Rattle.gr_depend.specs.Room.{CanTake};
 
 use crate::LOG_LIMIT;
 use crate::course::Course;
@@ -79,6 +80,7 @@ impl Course {
         ensures err { (p : ProgramSeen) (w : Past p) → Holds p w self.old → OnErr result (Holds p w self.new) }
         ensures contents { OnOk result (contents_at self.new.store ≡ led_on lease.old (contents_at self.old.store)) }
         ensures store { OnErr result (self.new.store ≡ self.old.store) }
+        ensures succeeds { CanTake self.old.log (records_led lease.old) → IsOk result }
         ensures loan { loan_of lease.new ≡ loan_of lease.old }
         ensures listing { SameListing self.old.store self.new.store }
         ensures taken { taken_at self.new.store ≡ taken_at self.old.store }
@@ -92,7 +94,7 @@ impl Course {
 
 impl Machine {
     ghost use Rattle.gr_rollback.specs.Pasts.{Timeline};
-    ghost use Rattle.gr_rollback.specs.Machines.{store_of, steps_of, Stands, IsMachine};
+    ghost use Rattle.gr_rollback.specs.Machines.{store_of, log_of, steps_of, Stands, IsMachine};
     ghost use Rattle.gr_rollback.specs.Leasing.{AllTaken, IsLentAt, SomeGoesAlone, led_on};
 
     /// Of the goroutines whose next step is local, in the order of names, the one at a place, modulo their number. It looks no
@@ -123,6 +125,8 @@ impl Machine {
         ensures fresh { IfOk result (λ o. IfSome o (λ l. (loan_of l).steps ≡ 0)) }
         ensures which { (p : ProgramSeen) (w : Timeline p) → Stands p w self.now
             → IfOk result (λ o. IsLentAt w.past.state place (option_map (λ l. (loan_of l).name) o)) }
+        ensures wants { (p : ProgramSeen) (w : Timeline p) → Stands p w self.now
+            → OnErr result ((go : List ℕ) × IsLentAt w.past.state place (Some go)) }
     {
         let Some(go) = self.alone_at(place) else {
             return Ok(None);
@@ -157,7 +161,8 @@ impl Machine {
     }
 
     /// Lets the steps of a lease whose goroutine is as it was lent, and which took some, join the log. Nothing can be taken
-    /// again after them. Refused, nothing has changed, except that the lease has lost its steps.
+    /// again after them. Refused, nothing has changed, except that the lease has lost its steps. It is not refused where the log
+    /// has room for them.
     pub fn keep_all(&mut self, alloc: Global, lease: &mut LentCopy) -> Result<(), NoMemory>
         requires machine { IsMachine self.old }
         requires lease { IsLease lease.old }
@@ -168,6 +173,7 @@ impl Machine {
             → AllTaken p w (loan_of lease.old).name (loan_of lease.old).steps result self.new }
         ensures contents { OnOk result (contents_at (store_of self.new) ≡ led_on lease.old (contents_at (store_of self.old))) }
         ensures store { OnErr result (store_of self.new ≡ store_of self.old) }
+        ensures succeeds { CanTake (log_of self.old) (records_led lease.old) → IsOk result }
         ensures loan { loan_of lease.new ≡ loan_of lease.old }
         ensures listing { SameListing (store_of self.old) (store_of self.new) }
         ensures taken { taken_at (store_of self.new) ≡ taken_at (store_of self.old) }
