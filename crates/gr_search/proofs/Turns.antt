@@ -2,7 +2,10 @@
 use Rattle.std.proofs.Common.{◌≡◌, ℕ, ◌+◌, Bool, true, false, List, ◌∷◌, Option, Some, None, drop, sym, ◌∙◌, ap, subst, arith}
 use Rattle.std.proofs.lemmas.List.{drop-drop}
 use Rattle.gr_search.specs.System.{System, Follows, goes}
-use Rattle.gr_search.specs.Going.{Stepped}
+use Rattle.gr_search.specs.Going.{Stepped, Going, Turned}
+use Rattle.gr_search.specs.declared.search.Task.{Task}
+use Rattle.gr_search.specs.declared.search.Turn.{Turn}
+use Rattle.gr_search.specs.declared.search.Turn.TheVariants.{GoOn}
 
 pub drop_one : {A : Type 0} (n : ℕ) (x : A) (xs : List A) → drop (n + 1) (x ∷ xs) ≡ drop n xs
 drop_one n x xs = let e : n + 1 ≡ 1 + n = omega arith in ap (λ k. drop k (x ∷ xs)) e ∙ sym (drop-drop n 1 (x ∷ xs))
@@ -21,3 +24,8 @@ module _ {State Event Key : Type 0} (Y Z : System State Event Key) (same : Y ≡
 
 pub drop_steps : {A : Type 0} (n : ℕ) (e : A) (xs ys zs : List A) → drop n xs ≡ ys → ys ≡ e ∷ zs → drop (n + 1) xs ≡ zs
 drop_steps n e xs ys zs h g = sym (drop-drop 1 n xs) ∙ ap (drop 1) (h ∙ g)
+
+-- what a turn keeps that goes on
+pub goes_on : {State Event Key : Type 0} (Y : System State Event Key) (turn : Turn) (V : Key → Type 0) (ts : List (Task Event)) (log : List Event) (s : State) → turn ≡ GoOn
+    → Turned Y turn V ts log s → Going Y V ts log
+goes_on Y turn V ts log s h w = let P : Turn → Type 0 = λ t. Turned Y t V ts log s in subst P h w

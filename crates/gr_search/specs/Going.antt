@@ -1,11 +1,11 @@
 -- How far a search has come.
-use Rattle.std.specs.Prelude.{length, ◌<◌, ◌≡◌, ◌⊎◌, ℕ, Bool, true, false, nat_eq, List, [], ◌∷◌, drop, Some, None}
+use Rattle.std.specs.Prelude.{length, ◌+◌, ◌<◌, ◌≤◌, ◌≡◌, ◌⊎◌, ℕ, Bool, true, false, nat_eq, List, [], ◌∷◌, drop, Some, None}
 use Rattle.std.specs.Cmp.Lexicographic.{pointwise}
 use Rattle.std.specs.List.{list_any, IsDistinct}
 use Rattle.std.specs.HashSet.{HashSet, contains}
 use Rattle.gr_search.specs.System.{System, Leads, Reached, Follows, Reaches, Expands, IsSafe}
 use Rattle.gr_search.specs.declared.searched.Limit.{Limit}
-use Rattle.gr_search.specs.declared.searched.Limit.TheVariants.{Memory, Steps, States, Back}
+use Rattle.gr_search.specs.declared.searched.Limit.TheVariants.{Memory, Steps, States, Turns, Back}
 use Rattle.gr_search.specs.declared.search.Task.{Task}
 use Rattle.gr_search.specs.declared.search.Task.TheVariants.{Try, TakeBack}
 use Rattle.gr_search.specs.declared.search.Answer.{Answer}
@@ -120,11 +120,59 @@ module _ {State Event Matter : Type 0} (Y : System State Event Matter) (means : 
   MetByRun longest Steps = HasRun longest
   MetByRun longest _ = ⊥
 
-  -- what is known where a limit was met, of the runs and of the keys
-  abbrev pub Met : (longest most : ℕ) → Limit → Type 0
-  Met longest most States = HasMore most
-  Met longest most Steps = HasRun longest
-  Met longest most _ = Unit {0}
+-- a state that was looked at: its key, and the events that were then to be tried there
+pub record Look (State Event : Type 0) : Type 0 where
+  pub key : List ℕ
+  pub at : State
+  pub events : List Event
+
+-- how many tasks such looks make: to try each event, and to take the steps back that led there
+abbrev pub tasks_of : {State Event : Type 0} → List (Look State Event) → ℕ
+tasks_of [] = 0
+tasks_of (l ∷ ls) = length l.events + 1 + tasks_of ls
+
+-- whether one of the looks has the key
+abbrev pub has_key : {State Event : Type 0} → List ℕ → List (Look State Event) → Bool
+has_key {State = State} {Event = Event} k ls = list_any (λ (l : Look State Event). pointwise nat_eq k l.key) ls
+
+module _ {State Event Matter : Type 0} (Y : System State Event Matter) (means : List ℕ → Matter → Type 0) (offers : State → List Event → Type 0) where
+  -- the look at a state that is reached: its key, and what is offered there
+  pub record IsLook (l : Look State Event) : Type 0 where
+    pub reached : Reached Y l.at
+    pub is_key : means l.key (Y.key l.at)
+    pub offered : offers l.at l.events
+
+  -- each is a look at a state that is reached, and no two have one key
+  abbrev pub AreLooks : List (Look State Event) → Type 0
+  AreLooks [] = Unit {0}
+  AreLooks (l ∷ ls) = IsLook l × (has_key l.key ls ≡ false) × AreLooks ls
+
+  -- looks at states that are reached make as many tasks, no two of them with one key
+  pub record HasTasks (turns : ℕ) : Type 0 where
+    pub looks : List (Look State Event)
+    pub are : AreLooks looks
+    pub enough : turns ≤ tasks_of looks
+
+  -- the keys that were seen are those of looks, and of the tasks that these make so many were done, and the others are left
+  pub record Does (seen : List ℕ → Bool) (left : List (Task Event)) (done : ℕ) : Type 0 where
+    pub looks : List (Look State Event)
+    pub are : AreLooks looks
+    pub known : (k : List ℕ) → has_key k looks ≡ true → seen k ≡ true
+    pub count : tasks_of looks ≡ done + length left
+
+  -- what is known where a limit was met, of the runs, of the keys, and of the tasks
+  abbrev pub Met : (longest most turns : ℕ) → Limit → Type 0
+  Met longest most turns States = HasMore Y means most
+  Met longest most turns Steps = HasRun Y means longest
+  Met longest most turns Turns = HasTasks turns
+  Met longest most turns _ = Unit {0}
+
+  -- the same where tasks are not counted yet
+  abbrev pub MetThere : (longest most : ℕ) → Limit → Type 0
+  MetThere longest most States = HasMore Y means most
+  MetThere longest most Steps = HasRun Y means longest
+  MetThere longest most Turns = ⊥
+  MetThere longest most _ = Unit {0}
 
 -- after every answer but a bad state the machine stands where it stood, unless a step could not be taken back
 abbrev pub IsHome : {E : Type 0} → Answer → List E → Type 0

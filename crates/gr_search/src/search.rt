@@ -1,9 +1,9 @@
 //! The search, depth first.
 
-ghost use Rattle.std.specs.Prelude.{◌≡◌, ◌⊎◌, IfOk, IfErr, OnOk, drop, true, false, Some, [], List, ℕ};
+ghost use Rattle.std.specs.Prelude.{◌≡◌, ◌⊎◌, ◌+◌, IfOk, IfErr, OnOk, drop, true, false, Some, [], List, ℕ};
 ghost use Rattle.gr_search.specs.System.{Follows, IsSafe, Leads};
 ghost use Rattle.gr_search.specs.Going.{Going, Arriving, Turned, Known, RefusesBack, RefusesLook, AreReached, keys_of, tries};
-ghost use Rattle.gr_search.specs.Going.{Met, MetByRun, Ended, IsHome};
+ghost use Rattle.gr_search.specs.Going.{Met, MetThere, MetByRun, Does, Ended, IsHome};
 
 use crate::key::Key;
 use crate::searched::{Limit, Searched};
@@ -111,8 +111,13 @@ fn arrive<M: Searched>(
     ensures turned { IfOk result (λ turn. Turned (M.system (M.fixed machine.old)) turn
         (Known (M.means (M.fixed machine.old)) (keys_of seen.new)) tasks.new.items (M.log machine.new) (M.state machine.new)) }
     ensures reached { AreReached (M.system (M.fixed machine.old)) (M.means (M.fixed machine.old)) (keys_of seen.new) }
-    ensures met { IfErr result (Met (M.system (M.fixed machine.old)) (M.means (M.fixed machine.old))
-        (M.longest (M.fixed machine.old)) most) }
+    ensures met { IfErr result (MetThere (M.system (M.fixed machine.old)) (M.means (M.fixed machine.old))
+        (M.offers (M.fixed machine.old)) (M.longest (M.fixed machine.old)) most) }
+    ensures does { OnOk result ((done : ℕ)
+        → Does (M.system (M.fixed machine.old)) (M.means (M.fixed machine.old)) (M.offers (M.fixed machine.old))
+        (keys_of seen.old) tasks.old.items done
+        → Does (M.system (M.fixed machine.old)) (M.means (M.fixed machine.old)) (M.offers (M.fixed machine.old))
+        (keys_of seen.new) tasks.new.items done) }
 {
     if machine.is_bad() {
         return Ok(Turn::Found);
@@ -153,8 +158,13 @@ fn take_turn<M: Searched>(
     ensures turned { IfOk result (λ turn. Turned (M.system (M.fixed machine.old)) turn
         (Known (M.means (M.fixed machine.old)) (keys_of seen.new)) tasks.new.items (M.log machine.new) (M.state machine.new)) }
     ensures reached { AreReached (M.system (M.fixed machine.old)) (M.means (M.fixed machine.old)) (keys_of seen.new) }
-    ensures met { IfErr result (Met (M.system (M.fixed machine.old)) (M.means (M.fixed machine.old))
-        (M.longest (M.fixed machine.old)) limits.now.states) }
+    ensures met { IfErr result (MetThere (M.system (M.fixed machine.old)) (M.means (M.fixed machine.old))
+        (M.offers (M.fixed machine.old)) (M.longest (M.fixed machine.old)) limits.now.states) }
+    ensures does { IfOk result (λ turn. turn ≡ Turn.GoOn → (done : ℕ)
+        → Does (M.system (M.fixed machine.old)) (M.means (M.fixed machine.old)) (M.offers (M.fixed machine.old))
+        (keys_of seen.old) tasks.old.items done
+        → Does (M.system (M.fixed machine.old)) (M.means (M.fixed machine.old)) (M.offers (M.fixed machine.old))
+        (keys_of seen.new) tasks.new.items (done + 1)) }
 {
     match tasks.pop_front() {
         None => Ok(Turn::Done),
@@ -200,8 +210,10 @@ fn begin<M: Searched>(
     ensures turned { IfOk result (λ turn. Turned (M.system (M.fixed machine.old)) turn
         (Known (M.means (M.fixed machine.old)) (keys_of seen.new)) tasks.new.items (M.log machine.new) (M.state machine.new)) }
     ensures reached { AreReached (M.system (M.fixed machine.old)) (M.means (M.fixed machine.old)) (keys_of seen.new) }
-    ensures met { IfErr result (Met (M.system (M.fixed machine.old)) (M.means (M.fixed machine.old))
-        (M.longest (M.fixed machine.old)) limits.now.states) }
+    ensures met { IfErr result (MetThere (M.system (M.fixed machine.old)) (M.means (M.fixed machine.old))
+        (M.offers (M.fixed machine.old)) (M.longest (M.fixed machine.old)) limits.now.states) }
+    ensures does { OnOk result (Does (M.system (M.fixed machine.old)) (M.means (M.fixed machine.old))
+        (M.offers (M.fixed machine.old)) (keys_of seen.new) tasks.new.items 0) }
 {
     let steps = follow(alloc, machine, limits.alone)?;
     arrive(alloc, machine, seen, tasks, steps as u64, limits.states)
@@ -216,7 +228,7 @@ fn explore<M: Searched>(alloc: Global, machine: &mut M, limits: &Limits) -> Resu
     ensures ended { IfOk result (λ turn. Ended (M.system (M.fixed machine.old)) turn (M.log machine.new)
         (M.state machine.new)) }
     ensures met { IfErr result (Met (M.system (M.fixed machine.old)) (M.means (M.fixed machine.old))
-        (M.longest (M.fixed machine.old)) limits.now.states) }
+        (M.offers (M.fixed machine.old)) (M.longest (M.fixed machine.old)) limits.now.states limits.now.turns) }
 {
     let mut seen = HashSet::new(alloc);
     let mut tasks = VecDeque::new(alloc);
@@ -263,10 +275,11 @@ pub fn search<M: Searched>(alloc: Global, machine: &mut M, limits: &Limits) -> A
     // the log is a run that leads to a bad state
     ensures found { result ≡ Answer.Found → (M.system (M.fixed machine.old)).bad (M.state machine.new) }
     ensures leads { result ≡ Answer.Found → Leads (M.system (M.fixed machine.old)) (M.log machine.new) (M.state machine.new) }
-    // more than so many states are reached of which no two have one key; or a run of so many steps is possible
+    // more than so many states are reached of which no two have one key; or a run of so many steps is possible; or the states
+    // that are reached make as many tasks
     ensures limited { (limit : Limit) → result ≡ Answer.Limited limit
-        → Met (M.system (M.fixed machine.old)) (M.means (M.fixed machine.old)) (M.longest (M.fixed machine.old))
-        limits.now.states limit }
+        → Met (M.system (M.fixed machine.old)) (M.means (M.fixed machine.old)) (M.offers (M.fixed machine.old))
+        (M.longest (M.fixed machine.old)) limits.now.states limits.now.turns limit }
 {
     match explore(alloc, machine, limits) {
         Ok(Turn::Found) => Answer::Found,

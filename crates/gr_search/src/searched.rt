@@ -54,6 +54,9 @@ pub trait Searched {
     // How long a run may get.
     ghost longest: { Fixed → ℕ };
 
+    // Whether these events may be tried in a state, in this order.
+    ghost offers: { Fixed → State → List Self.Event → Type 0 };
+
     /// Takes the event, if it is possible; else nothing has changed. Refused, nothing has changed: out of memory, or the run is as
     /// long as one may get.
     fn step(&mut self, event: Self::Event) -> Result<bool, Limit>
@@ -95,6 +98,7 @@ pub trait Searched {
     fn events(&self, alloc: Global) -> Result<Vec<Self::Event>, Limit>
         requires { stands self.now }
         ensures all { IfOk result (λ events. HasAll (system (fixed self.now)) (state self.now) events.items) }
+        ensures offered { IfOk result (λ events. offers (fixed self.now) (state self.now) events.items) }
         ensures refuses { IfErr result RefusesLook };
 
     /// A key of what matters of its state.

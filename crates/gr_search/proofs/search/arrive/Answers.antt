@@ -1,8 +1,9 @@
 use Rattle.std.proofs.Common.{◌∙◌, ap}
 use Rattle.gr_search.specs.Going.{tries, keys_of}
 use Rattle.gr_search.proofs.Safe.{not_both}
-use Rattle.gr_search.proofs.Seen.{was_there}
+use Rattle.gr_search.proofs.Seen.{was_there, was_new}
 use Rattle.gr_search.proofs.Looks.{look_known, look_new}
+use Rattle.gr_search.proofs.Works.{does_known, does_new}
 use Rattle.gr_search.proofs.search.arrive.Goals as goal
 
 pub returns-then-not-is_new-clause-turned : goal.returns-then-not-is_new-clause-turned
@@ -21,3 +22,18 @@ returns-clause-turned g c =
     (m.state c.args.machine.now) c.in_ok-key.ensures.means (g.met.M.Searched.one f)
     _ _ c.args.steps _ c.in_ok-events.events.items (c.in_ok-push_tries.ensures.tries ∙ ap (tries c.in_ok-events.events.items) c.in-Ok-push_front.ensures.items)
     (g.met.M.Searched.leads c.args.machine.now c.requires.stands) (λ b. not_both _ (c.is_bad.ensures.1 b) c.if-is_bad.false) c.in_ok-events.ensures.all c.requires.arriving
+
+pub returns-then-not-is_new-clause-does : goal.returns-then-not-is_new-clause-does
+returns-then-not-is_new-clause-does g c done d =
+    let m = g.M.Searched in
+    let f = m.fixed c.args.machine.now in
+    does_known (m.system f) (m.means f) (m.offers f) (keys_of c.args.seen.now) (keys_of c.insert.new.self) c.in_ok-key.key c.in-Ok.ensures.updates.0 _ done d
+
+pub returns-clause-does : goal.returns-clause-does
+returns-clause-does g c done d =
+    let m = g.M.Searched in
+    let f = m.fixed c.args.machine.now in
+    does_new (m.system f) (m.means f) (m.offers f) (keys_of c.args.seen.now) (keys_of c.insert.new.self) c.in_ok-key.key c.in-Ok.ensures.updates.0
+    _ _ c.args.steps (m.state c.args.machine.now) _ done (was_new _ _ c.in-Ok.ensures.added c.if-not-is_new.false)
+    (record { log = m.log c.args.machine.now; leads = g.met.M.Searched.leads c.args.machine.now c.requires.stands }) c.in_ok-key.ensures.means c.in_ok-events.ensures.offered
+    (c.in_ok-push_tries.ensures.tries ∙ ap (tries c.in_ok-events.events.items) c.in-Ok-push_front.ensures.items) d

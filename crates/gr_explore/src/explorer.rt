@@ -1,0 +1,96 @@
+//! A machine that explores, as one that is searched.
+
+ghost use Rattle.std.specs.Prelude.{◌≡◌};
+
+use crate::looking::{key_of, offered};
+use crate::stepping::{ends_badly, take, take_back, taken_since};
+use gr_base::{Event, NoMemory};
+use gr_rollback::Machine;
+use gr_search::key::Key;
+use gr_search::searched::{Limit, Searched};
+use std::alloc::Global;
+
+/// A machine, and with how many steps it stood where the search began.
+#[derive(Drop)]
+pub(crate) struct Explorer<'a> {
+    pub(crate) machine: &'a mut Machine,
+    pub(crate) base: usize,
+    pub(crate) alloc: Global,
+}
+
+impl<'a> Searched for Explorer<'a> {
+    ghost use Rattle.std.specs.Prelude.{◌≡◌, ℕ, List};
+    ghost use Rattle.gr_rules.specs.States.{State as StateOfRules};
+    ghost use Rattle.gr_schedules.specs.Schedules.{Origin, schedules};
+    ghost use Rattle.gr_schedules.specs.Choices.{AreChoices};
+    ghost use Rattle.gr_schedules.specs.Keys.{IsKey};
+    ghost use Rattle.gr_schedules.proofs.ScheduleLemmas.{schedule_laws};
+    ghost use Rattle.gr_schedules.proofs.KeyLemmas.{one_state};
+    ghost use Rattle.gr_explore.specs.Exploring.{StandsSince, events_since, longest_after, origin_of, state_seen};
+    ghost use Rattle.gr_explore.specs.Leading.{since_leads};
+
+    type Event = Event;
+
+    ghost State = { StateOfRules };
+
+    ghost Matter = { StateOfRules };
+
+    // The reference to the machine, with how many steps it stood, and where that was.
+    ghost Fixed = { ℕ × ℕ × Origin };
+
+    ghost fixed = { λ e. (e.machine.ghost_name, e.base, origin_of e.machine.now e.base) };
+
+    ghost system = { λ f. schedules f.2 };
+
+    ghost means = { λ f key s. IsKey f.2.program key s };
+
+    ghost state = { λ e. state_seen e.machine.now };
+
+    ghost log = { λ e. events_since e.machine.now e.base };
+
+    ghost stands = { λ e. StandsSince e.machine.now e.base };
+
+    ghost longest = { λ f. longest_after f.2 };
+
+    ghost offers = { λ f s events. AreChoices f.2.program s events };
+
+    fn step(&mut self, event: Event) -> Result<bool, Limit> {
+        take(self.machine, self.base, event)
+    }
+
+    fn back(&mut self) -> Result<(), Limit> {
+        take_back(self.alloc, self.machine, self.base)
+    }
+
+    fn taken(&self) -> u64 {
+        taken_since(self.machine, self.base)
+    }
+
+    fn is_bad(&self) -> bool {
+        ends_badly(self.machine)
+    }
+
+    fn alone(&self, _alloc: Global) -> Result<Option<Event>, Limit> {
+        Ok(None)
+    }
+
+    fn events(&self, alloc: Global) -> Result<Vec<Event>, Limit> {
+        match offered(alloc, self.machine) {
+            Ok(events) => Ok(events),
+            Err(NoMemory) => Err(Limit::Memory),
+        }
+    }
+
+    fn key(&self, alloc: Global) -> Result<Key, Limit> {
+        match key_of(alloc, self.machine) {
+            Ok(key) => Ok(key),
+            Err(NoMemory) => Err(Limit::Memory),
+        }
+    }
+
+    ghost leads = { λ e h. since_leads e.machine.now e.base h };
+
+    ghost laws = { λ e h. schedule_laws (origin_of e.machine.now e.base) };
+
+    ghost one = { λ f key s t a b. one_state f.2.program key s t a b };
+}

@@ -1,0 +1,4 @@
+pub mod ScheduleLemmas
+pub mod KeyLemmas
+pub mod ChoiceLemmas
+pub mod NameLemmas

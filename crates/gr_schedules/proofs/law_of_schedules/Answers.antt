@@ -1,0 +1,8 @@
+use Rattle.gr_schedules.proofs.ScheduleLemmas.{schedule_laws, safe_runs}
+use Rattle.gr_schedules.proofs.law_of_schedules.Goals as goal
+
+pub returns-clause-laws : goal.returns-clause-laws
+returns-clause-laws c = schedule_laws
+
+pub returns-clause-safe : goal.returns-clause-safe
+returns-clause-safe c = safe_runs

@@ -1,0 +1,4 @@
+pub mod Schedules
+pub mod Names
+pub mod Choices
+pub mod Keys
