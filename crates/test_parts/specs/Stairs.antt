@@ -50,6 +50,10 @@ moves_of s = map (λ c. c.by) s.way.items
 abbrev pub Stands : Stairs → Type 0
 Stands s = IsWay (plan_of s) s.way.items s.place
 
+-- both moves are tried in each place
+abbrev pub AreOffered : List Move → Type 0
+AreOffered events = events ≡ Up ∷ Fall ∷ []
+
 -- a key is the place
 abbrev pub IsKey : List ℕ → ℕ → Type 0
 IsKey key place = key ≡ place ∷ []

@@ -78,6 +78,8 @@ impl Searched for Stairs {
 
     ghost longest = { λ plan. 20 };
 
+    ghost offers = { λ plan place events. seen.AreOffered events };
+
     fn step(&mut self, event: Move) -> Result<bool, Limit> {
         let Some(place) = self.after(event)? else {
             return Ok(false);
