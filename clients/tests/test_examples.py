@@ -48,7 +48,7 @@ def test_each_example_has_a_story() -> None:
 def test_the_session_of_the_readme() -> None:
     """What the README shows of a session is what the shell says, but for the prompt."""
     lines = (CLIENTS / "README.md").read_text().splitlines()
-    begin = next(at for at, line in enumerate(lines) if line.endswith("rewind-shell clients/examples/lock_order.go"))
+    begin = next(at for at, line in enumerate(lines) if line.endswith("rewind-shell examples/lock_order.go"))
     shown = [line[4:] for line in lines[begin + 1 : lines.index("", begin)]]
     echoed = [re.sub(r"^\(rewind \S+\) ", "> ", line) for line in shown]
     given = "".join(line[2:] + "\n" for line in echoed if line.startswith("> "))
