@@ -26,6 +26,8 @@ ROOT = os.path.dirname(HERE)
 
 MIRROR = "/usr/share/javascript/codemirror"
 LICENCE = "/usr/share/doc/libjs-codemirror/copyright"
+# Later ones go before earlier ones.
+STYLES = ["page", "panel", "source", "picture", "sizes"]
 # Names stay as they are, so that a report of an error names functions of the source.
 BUNDLE = ["--bundle", "--minify-whitespace", "--minify-syntax", "--charset=utf8", "--target=es2022", "--log-level=warning"]
 # A command of a story, with what is told before it, and a story or an exercise as the page takes it.
@@ -69,7 +71,7 @@ def story(entry: str | dict[str, str], level: str, words: Words) -> Story:
     """A story of the menu: its source, and its commands with what is told before each."""
     entry = {"name": entry} if isinstance(entry, str) else entry
     name = entry["name"]
-    folders = [f"{ROOT}/crates/sessions/data/{name}", f"{ROOT}/clients/examples/{name}"]
+    folders = [f"{ROOT}/crates/sessions/data/{name}", f"{ROOT}/examples/{name}"]
     path = f"{ROOT}/{entry['file']}" if "file" in entry else next(it for it in folders if os.path.exists(f"{it}.go"))
     told = words["stories"].get(name, {"title": "", "told": []})
     script = entry.get("script") or (read(f"{path}.script") if os.path.exists(f"{path}.script") else "run 1000")
@@ -128,7 +130,7 @@ def program(wasm: str) -> str:
 
 def page(wasm: str, is_proved: bool) -> str:
     """The text of the page."""
-    styles = [f"{MIRROR}/lib/codemirror.css", f"{HERE}/src/style.css"]
+    styles = [f"{MIRROR}/lib/codemirror.css", *(f"{HERE}/src/style/{name}.css" for name in STYLES)]
     scripts = [read(f"{MIRROR}/lib/codemirror.js"), read(f"{MIRROR}/mode/go/go.js")]
     safe = json.dumps(given()).replace("</", "<\\/")
     parts = [f'<script id="program" type="application/octet-stream">{program(wasm)}</script>']

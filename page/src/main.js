@@ -2,8 +2,9 @@
 
 import { toggleBreak } from "./control/breaks.js";
 import { canSuspend, Session as Engine } from "./engine/engine.js";
-import { fromHash, inflated, LINK } from "./control/linking.js";
-import { kept, keep, keepSettings, settings } from "./control/keeping.js";
+import { inflated, LINK } from "./control/linking.js";
+import { begin, DAMAGED, linked, openBeginning } from "./control/opening.js";
+import { keep, keepOwn, keepSettings, settings } from "./control/keeping.js";
 import { erred } from "./control/losses.js";
 import { legend } from "./picture/legend.js";
 import { act, listenToActions, openStory } from "./control/actions.js";
@@ -16,16 +17,16 @@ import { parseFault } from "./engine/protocol.js";
 import { isUnanswered } from "./engine/remote.js";
 import { asPng } from "./picture/saved.js";
 import { savePicture } from "./picture/saving.js";
-import { paletteRules } from "./picture/palette.js";
+import { tokenRules } from "./tokens.js";
 import { PICTURE_RULES } from "./picture/picture.js";
 import { Words } from "./panes/words.js";
-import { counted, field, find, make, tableRow } from "./element.js";
+import { field, find, make, tableRow } from "./element.js";
+import { SMALL } from "./panes/tabs.js";
+import { makeMenus } from "./panes/menus.js";
 import { makePanes } from "./panes/splitters.js";
 import { paneEvents, showStepsOf } from "./control/asking.js";
 import { watchExercise } from "./lessons/tasks.js";
 
-const FIRST = "deadlock";
-const DAMAGED = "The link is damaged, and no session can be read of it: ask for it anew.";
 const BROWSERS = "Rewind needs a browser with WebAssembly: Chrome or Edge 103, Firefox 113, Safari 16.4, or newer ones.";
 
 /** @returns {Given} */
@@ -56,56 +57,17 @@ function fillHelp({ given: { commands, licence } }) {
   find("legend").innerHTML = legend();
 }
 
-// What the address holds, or nothing.
-/** @param {Page} page */
-async function linked(page) {
-  try {
-    return { link: await fromHash(location.hash), isDamaged: false };
-  } catch {
-    page.views.transcript.fault(DAMAGED);
-    page.say(DAMAGED, "bad");
-    return { link: null, isDamaged: true };
-  }
-}
-
-// What the page begins with: the text of a link, the work that was kept, or the first story. Undoing in the editor brings kept work
-// back that a link replaced.
-/** @param {Page} page */
-async function begin(page) {
-  const { editor, stories } = page.views;
-  const [{ link, isDamaged }, work] = [await linked(page), kept()];
-  const shared = link || work;
-  const source = stories.choose(shared ? shared.name || "" : FIRST);
-  editor.begin(work ? work.source : link ? "" : source);
-  if (link) editor.text = link.source;
-  if (link?.theme) setTheme(link.theme);
-  return { shared, isDamaged };
-}
-
 // A link that is put into the address of the open page.
 /** @param {Page} page */
 function listenToLinks(page) {
   window.addEventListener("hashchange", async () => {
     const { link } = await linked(page);
     if (!link) return;
+    page.tour.leave();
     page.views.stories.choose(link.name || "");
     page.views.editor.text = link.source;
     await openBeginning(page, link);
   });
-}
-
-// Opens what the page began with, and does its commands again.
-/**
- * @param {Page} page
- * @param {import("./control/linking.js").Shared | null} shared
- */
-async function openBeginning(page, shared) {
-  page.views.editor.markBreaks(shared?.breaks || []);
-  if (!(await page.open()) || !shared?.commands.length) return;
-  await page.replay(shared.commands);
-  page.views.stories.catchUp(shared.commands);
-  page.say(`${counted(shared.commands.length, "command")} ${shared.commands.length === 1 ? "was" : "were"} done again.`);
-  if (shared.chosen && page.session && page.session.log.row(shared.chosen) >= 0) await page.pointing.show(shared.chosen);
 }
 
 /** @param {string} theme */
@@ -129,7 +91,10 @@ function takeSettings() {
 /** @param {Page} page */
 function keepWork(page) {
   let timer = 0;
-  const now = () => keep(page.work);
+  const now = () => {
+    keep(page.work);
+    if (!page.views.stories.isOf(page.views.editor.text)) keepOwn(page.views.editor.text);
+  };
   page.listeners.push(() => {
     clearTimeout(timer);
     if (location.hash.startsWith(LINK)) history.replaceState(null, "", location.href.split("#")[0]);
@@ -137,6 +102,18 @@ function keepWork(page) {
     page.views.controls.show(page);
   });
   window.addEventListener("pagehide", now);
+}
+
+// On a small screen the bar below has the moves that are wanted most, and the menu beside them the others.
+function fitControls() {
+  const fit = () => {
+    for (const id of ["run", "redo"]) SMALL.matches ? find("moves-menu").prepend(find(id)) : find("undo").after(find(id));
+    if (SMALL.matches) find("picture-frame").append(find("picture-tools"));
+    else find("what").after(find("picture-tools"));
+    if (!SMALL.matches) find("step").after(find("run"));
+  };
+  SMALL.addEventListener("change", fit);
+  fit();
 }
 
 // An error of the page that nothing else met. What the browser tells of its own work has no error with it.
@@ -147,7 +124,7 @@ function listenToErrors(page) {
 }
 
 async function start() {
-  document.head.append(make("style", {}, paletteRules(":root") + PICTURE_RULES));
+  document.head.append(make("style", {}, tokenRules() + PICTURE_RULES));
   takeSettings();
   const page = makePage();
   listenToErrors(page);
@@ -155,10 +132,13 @@ async function start() {
   listenToKeys(page);
   listenInPicture(page);
   makeToolbar(find("controls"));
+  makeMenus();
+  fitControls();
   makePanes(page);
   fillHelp(page);
   watchExercise(page);
-  const { shared, isDamaged } = await begin(page);
+  const { shared, isDamaged, isFirst, theme } = await begin(page);
+  if (theme) setTheme(theme);
   page.showControls();
   try {
     page.machine = await makeMachine();
@@ -173,6 +153,7 @@ async function start() {
   if (isDamaged) page.say(DAMAGED, "bad");
   keepWork(page);
   listenToLinks(page);
+  if (isFirst && !isDamaged) void page.tour.offer();
   return true;
 }
 

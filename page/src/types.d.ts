@@ -4,6 +4,7 @@ interface Reply { lines: string[]; last: string; words: string[]; isOk: boolean 
 interface Refusal { code: string; line: number; column: number; text: string }
 interface Variable { name: string; value: string }
 interface Frame { name: string; variables: Variable[] }
+interface StackFrame { depth: number; variables: Variable[] } // the innermost frame, and how many there are
 interface Goroutine { name: string; state: string; steps: number; line: number | null; frames: Frame[]; statement?: Statement | null; doing?: string }
 interface Channel { name: string; capacity: number; isClosed: boolean; items: string[]; senders: string[]; receivers: string[] }
 interface Tail { isOk: boolean; count: number; lines: string[]; last?: string }
@@ -13,7 +14,7 @@ interface LogColumns { isOk: boolean; names: string[]; kinds: string[]; of: Int3
 interface Step { id: string; goroutine: string; number: number; kind: string; row: number }
 interface Edge { from: string; to: string; kind: string }
 interface Note {
-  line: number; statement: Statement | null; printed: string[]; woke: string[];
+  line: number; statement: Statement | null; frame: StackFrame; printed: string[]; woke: string[];
   causes: Map<string, number> | null; edges: Edge[] | null; channels: string[];
   over: Operation; // what it does over a channel
   received: string; part: string; turn: number; // what it received, by which part of its statement, after so many others
@@ -59,7 +60,7 @@ interface FormFault { form: string; first: number; last: number; fields: Fields 
 
 interface PointedView {
   pointed: string; causes: Map<string, number[]>; consequences: Map<string, number[]>; forbids: string[]; count: number;
-  cycle: string[]; fault: string; found: Set<string> | null; last: number; direct: boolean; isKept: boolean;
+  cycle: string[]; stuck: Set<string>; found: Set<string> | null; last: number; direct: boolean; isKept: boolean;
 }
 
 interface Machine { program: WebAssembly.Module; script: string; suspends: boolean }

@@ -20,7 +20,7 @@ async function screenReader(hands) {
   const property = (node, name) => node.properties?.find((/** @type {any} */ it) => it.name === name)?.value.value;
   const steps = options.filter((/** @type {any} */ it) => /, row|of 16$/.test(it.name.value));
   assert.ok(steps.length >= 10 && steps.length === (await hands.drawn()).length, "each drawn step is an option");
-  assert.ok(steps.some((/** @type {any} */ it) => it.name.value === "g0.2#3, recv-wait, line 5, y := <-to, 16 of 16"), "it is read with its statement and line");
+  assert.ok(steps.some((/** @type {any} */ it) => it.name.value === "g0.2#3, waits to receive, line 5, y := <-to, 16 of 16"), "it is read with its statement and line");
   const box = nodes.find((/** @type {any} */ it) => it.role?.value === "listbox" && /Steps, in the order/.test(it.name.value));
   const active = property(box, "activedescendant");
   assert.ok(active !== undefined || (await browser.run("document.getElementById('picture').getAttribute('aria-activedescendant')")) === "row-15", "the step that arrows reach is the active one");
@@ -33,11 +33,11 @@ async function toolbar(hands) {
   await hands.story("deadlock");
   const stops = await browser.run("[...document.querySelectorAll('#controls button')].filter((it) => it.tabIndex === 0).length");
   assert.equal(stops, 1, "a toolbar is one stop of the tab key");
-  await browser.run("document.getElementById('start').focus()");
+  await browser.run("document.getElementById('next').focus()");
   await browser.key("ArrowRight");
   assert.equal(await browser.run("document.activeElement.id"), "step", "arrows go along it");
   await browser.key("End");
-  assert.equal(await browser.run("document.activeElement.id"), "next", "to its end");
+  assert.equal(await browser.run("document.activeElement.id"), "moves-more", "to its end");
   await browser.run("document.activeElement.blur()");
 }
 
@@ -53,7 +53,7 @@ async function layouts(hands) {
 // Runs in the page: targets of less than 24 pixels.
 function smallTargets() {
   const all = [...document.querySelectorAll("button, select, input:not([type=checkbox]), summary, .take-back rect")];
-  const small = all.filter((it) => it.getClientRects().length && !it.closest(".CodeMirror") && it.getBoundingClientRect().height < 23.5);
+  const small = all.filter((it) => it.getClientRects().length && !it.closest(".CodeMirror, .unseen") && !it.matches(".unseen") && it.getBoundingClientRect().height < 23.5);
   return [...new Set(small.map((it) => `${it.tagName} ${it.id || it.className || it.textContent} ${it.getBoundingClientRect().height}`))];
 }
 
@@ -76,7 +76,7 @@ async function forcedColours(hands) {
   const outline = (selector) => `getComputedStyle(document.querySelector(${JSON.stringify(selector)})).outlineStyle`;
   assert.deepEqual(await browser.run(`[${outline(".card.chosen")}, ${outline("#editor .stands")}]`), ["solid", "solid"], "with forced colours the chosen goroutine and its line stand out");
   await browser.call("Emulation.setEmulatedMedia", { features: [], media: "print" });
-  assert.equal(await browser.run("[...document.querySelectorAll('#controls, header, .buttons')].filter((it) => it.getClientRects().length).length"), 0, "on paper there are no buttons");
+  assert.equal(await browser.run("[...document.querySelectorAll('#controls, #bar, header, .buttons, #matter button')].filter((it) => it.getClientRects().length).length"), 0, "on paper there are no buttons");
   assert.ok(await browser.run("document.getElementById('picture').scrollHeight <= document.getElementById('picture').clientHeight + 2"), "and the picture is whole");
   await browser.call("Emulation.setEmulatedMedia", { features: [], media: "" });
 }

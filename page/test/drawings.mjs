@@ -102,7 +102,7 @@ const FIRST = ["g0#7 | println(<-a, <-b) | <-a ← 7", "g0#8 | println(<-a, <-b)
 const REST = ["g0#10 | c := <-cc | ← g0/c4", "g0#12 | println(<-c) | ← 9", "g0.1#6 | case a <- 1 | ", "g0#14 | case <-a | ← 1"];
 
 // The labels of the steps of some kinds, with what they received.
-const LABELS = `[...document.querySelectorAll("#picture [data-step]")].map((it) => [it.dataset.step, ...["kind", "received"].map((part) => it.querySelector("text ." + part)?.textContent.trim() || "")])
+const LABELS = `[...document.querySelectorAll("#picture [data-step]")].map((it) => [it.dataset.step, ...["kind", "received"].map((part) => it.querySelector("." + part)?.textContent.trim() || "")])
   .filter(([, kind, received]) => received || /^case|^select/.test(kind)).map((it) => it.join(" | "))`;
 
 /** @param {Hands} hands */
@@ -120,7 +120,7 @@ async function messages(hands) {
   assert.ok((await browser.run(LABELS)).includes("g0.1#3 | case read <- balance | "), "a select shows the case that it took");
   await hands.perform("back g0.3#4");
   assert.deepEqual((await browser.run(LABELS)).filter((/** @type {string} */ it) => it.startsWith("g0#")), waited.slice(0, 1), "and goes with its sender");
-  assert.ok(/g0#8, recv-wait, line 24, <-done, received true,/.test(await browser.run("document.querySelector('[data-step=\"g0#8\"]').getAttribute('aria-label')")), "it is spoken too");
+  assert.ok(/g0#8, waits to receive, line 24, <-done, received true,/.test(await browser.run("document.querySelector('[data-step=\"g0#8\"]').getAttribute('aria-label')")), "it is spoken too");
   await hands.source(MESSAGES);
   await hands.perform("run 100");
   assert.deepEqual(await browser.run(LABELS), [...FIRST, ...REST], "each value stands at its part, and fits its channel");

@@ -113,7 +113,7 @@ async function pasts(hands) {
   await hands.idle();
   await hands.browser.size(1280, 600);
   await hands.idle();
-  assert.ok(await isInPicture(hands, '[data-step="g0#1"] .mark'), "the last step of a past state stays in view in a smaller window");
+  assert.ok(await isInPicture(hands, '[data-mark="g0#1"] .mark'), "the last step of a past state stays in view in a smaller window");
   await hands.browser.size(1280, 800);
   await hands.act("now");
   await hands.browser.run("{ const it = document.getElementById('moment'); it.value = '5'; it.oninput(); }");
@@ -174,7 +174,7 @@ async function clicks(hands) {
   await hands.key("r");
   const items = await hands.texts('[data-channel="g0/c1"] dd .asked-value');
   assert.deepEqual(items, ["3", "4", "g0=5"], "items and waiters of a channel can be clicked");
-  assert.ok(/^g0.c1\s+ch\s+open/.test(await hands.text('[data-channel="g0/c1"] .top')), "a channel is shown with the variables that hold it");
+  assert.ok(/^ch\s+\(g0.c1\)\s+open/.test(await hands.words('[data-channel="g0/c1"] .top')), "a channel is shown with the variables that hold it");
   const sends = [];
   for (const number of [3, 4]) {
     sends.push(await hands.browser.run(`rewind.page.session.user.ask('back send g0/c1 ${number}').then(async (it) => (await rewind.page.session.user.ask('redo'), it.words[2]))`));
@@ -200,7 +200,7 @@ async function previews(hands) {
   await hands.browser.run("rewind.page.pointing.show('g0.1#3')");
   await hands.until("document.querySelector('#preview s')");
   const said = await hands.text("#preview");
-  assert.ok(/^Taken back, \d+ steps would go:/.test(said), "a preview tells how many steps would go");
+  assert.ok(/^\d+ steps would go, and \d+ stay:/.test(said), "a preview tells how many steps would go");
   assert.ok((await hands.texts("#preview s"))[0] === "0", "what goes from the console");
   assert.ok(/Goroutines/.test(said) && /Variables/.test(said), "and how variables and goroutines change");
   assert.equal((await hands.ids()).length, 13, "nothing is changed by it");
@@ -210,7 +210,7 @@ async function previews(hands) {
   await hands.browser.run(`rewind.page.pointing.show(${JSON.stringify(last)})`);
   await hands.until("document.querySelector('#preview p')");
   await hands.idle();
-  assert.ok(await isInPicture(hands, `[data-step="${last}"] .mark`), "the chosen step stays in view where a preview takes room");
+  assert.ok(await isInPicture(hands, `[data-mark="${last}"] .mark`), "the chosen step stays in view where a preview takes room");
 }
 
 // Whether an element of the picture is in view.
@@ -230,7 +230,7 @@ async function exercises(hands) {
   assert.ok(EXERCISES.length >= 12 && new Set(EXERCISES.map((/** @type {{level: string}} */ { level }) => level)).size === 3, "there are at least twelve exercises in three levels");
   for (const { name, solution, choose } of EXERCISES) {
     await hands.story(name);
-    assert.equal(await hands.text("#task-verdict"), "Not yet.", `exercise ${name} is not solved at its start`);
+    assert.ok(/^Not yet: \S.*\.$/.test(await hands.text("#task-verdict")), `exercise ${name} is not solved at its start, and says what is missing`);
     const commands = typeof solution === "string" ? readFileSync(TOP + solution, "utf8").split("\n").filter((line) => line.trim()) : solution;
     for (const line of commands) await hands.browser.run(`rewind.page.perform(${JSON.stringify(line)}).then(() => 1)`);
     if (choose) await hands.browser.run(`rewind.page.pointing.show(${JSON.stringify(choose)})`);
@@ -270,13 +270,14 @@ async function presentation(hands) {
   await hands.story("deadlock");
   await hands.key("v");
   assert.equal(await browser.run("getComputedStyle(document.querySelector('#editor .CodeMirror')).fontSize"), "20px", "presentation has letters of 20 pixels");
-  assert.deepEqual(await browser.run("['transcript-pane', 'goroutines', 'legend'].filter((id) => document.getElementById(id).getClientRects().length)"), [], "and picture and source alone");
+  assert.deepEqual(await browser.run("['transcript', 'goroutines', 'legend', 'tabs'].filter((id) => document.getElementById(id).getClientRects().length)"), [], "and picture and source alone");
   await hands.perform("run 100");
   await hands.click("#leave");
   assert.ok(await browser.run("!document.body.classList.contains('presentation') && !document.getElementById('leave').getClientRects().length"), "a button leads out of it");
   await browser.size(853, 533);
   await hands.key("v");
   await hands.idle();
+  await hands.until("document.querySelector('#picture .cycle-word')");
   assert.ok(await isInPicture(hands, ".cycle-word:last-of-type"), "the cycle of a deadlock is in view in a small presentation");
   await hands.key("v");
   await browser.size(400, 800);

@@ -1,14 +1,16 @@
-// Pictures of the page, wide and narrow, light and dark, for people to look at; and what can be measured of a look: nothing is wider
-// than the window, and every text has the contrast that it needs.
+// Pictures of the page for people to look at, and what can be measured of each. Nothing is wider than the window, every text has the
+// contrast that it needs, and its parts stand where they stood when the picture was looked at and found good (`shapes.json`, which
+// `SHAPES=write` makes anew).
 
 import assert from "node:assert/strict";
+import { readFileSync, writeFileSync } from "node:fs";
 import { Hands } from "./hands.mjs";
+import { SCENES } from "./scenes.mjs";
+import { shapesOf } from "./shapes.mjs";
 
 const ENOUGH = 4.5;
-const SCHEMES = ["light", "dark"];
-// Of each width the height that goes with it. The third is the second at a zoom of 150 percent.
-/** @type {{[width: number]: number}} */
-const HEIGHTS = { 1920: 1080, 1280: 800, 853: 533, 400: 800 };
+const SHAPES = new URL("shapes.json", import.meta.url).pathname;
+const NEAR = 12; // pixels: so far letters of another face may move a part
 
 // Runs in the page: texts whose colour is too close to what is behind them.
 /** @param {number} enough */
@@ -36,7 +38,7 @@ function faintTexts(enough) {
   /** @param {Element} it */
   const hasText = (it) => [...it.childNodes].some((node) => node.nodeType === 3 && node.textContent?.trim());
   /** @param {Element} it */
-  const shown = (it) => it.getClientRects().length && !it.closest("[disabled], .take-back, .unseen, script, style, option, optgroup");
+  const shown = (it) => it.getClientRects().length && !it.closest("[disabled], .take-back, .unseen, script, style, option, optgroup, .CodeMirror-cursors, .CodeMirror-measure");
   const faint = [...document.querySelectorAll("body *")].filter((it) => hasText(it) && shown(it) && contrast(it) < enough);
   return [...new Set(faint.map((it) => `${it.tagName} ${it.getAttribute("class") || it.id}: ${it.textContent?.trim().slice(0, 20)} ${contrast(it).toFixed(1)}`))];
 }
@@ -50,114 +52,57 @@ function unnamed() {
   return all.filter((it) => !named(it)).map((it) => it.outerHTML.slice(0, 80));
 }
 
-// Runs in the page: how much of the editor's width beside the numbers of lines the note of a refusal leaves unused.
-function besideNote() {
-  const [note, gutters, editor] = [".refusal-note", ".CodeMirror-gutters", "#editor"].map((it) => /** @type {Element} */ (document.querySelector(it)).getBoundingClientRect());
-  return Math.round(editor.width - gutters.width - note.width);
-}
-
-// Runs in the page: steps whose labels reach out of the picture.
-function clippedLabels() {
+// Runs in the page: steps whose lines reach out of the picture.
+function clippedLines() {
   const { right } = /** @type {Element} */ (document.getElementById("picture")).getBoundingClientRect();
   const steps = [...document.querySelectorAll("#picture [data-step]")];
   /** @param {Element} it */
-  const reach = (it) => it.querySelector(".halo")?.getBoundingClientRect().right || 0;
-  return steps.filter((it) => reach(it) > right).map((it) => it.getAttribute("data-step"));
+  const reach = (it) => Math.max(...[...it.querySelectorAll("text")].map((text) => text.getBoundingClientRect().right));
+  return steps.filter((it) => reach(it) > right + 1).map((it) => it.getAttribute("data-step"));
 }
 
-// The table of keys, and the ring around what has the focus.
+// What each part of a scene is measured to be, and what it was when it was looked at.
 /**
- * @param {TestBrowser} browser
- * @param {string} folder
- * @param {string} name
+ * @param {{[part: string]: number[]}} is
+ * @param {{[part: string]: number[]}} was
  */
-async function lookAtHelp(browser, folder, name) {
-  await browser.run("document.getElementById('help').click()");
-  assert.deepEqual(await browser.run(`(${faintTexts})(${ENOUGH})`), [], `faint texts of the help, ${name}`);
-  assert.equal(await browser.run("[...document.querySelectorAll('#keys kbd')].filter((it) => !it.getClientRects().length).length"), 0, `keys that are shown, ${name}`);
-  await browser.shot(`${folder}/help-${name}.png`);
-  await browser.run("document.getElementById('help-dialog').close()");
+function moved(is, was) {
+  const names = [...new Set([...Object.keys(is), ...Object.keys(was)])];
+  const far = (/** @type {string} */ name) => !is[name] || !was[name] || is[name].some((it, at) => Math.abs(it - was[name][at]) > NEAR);
+  return names.filter(far).map((name) => `${name}: ${is[name] || "not there"}, and was ${was[name] || "not there"}`);
 }
 
 /**
  * @param {TestBrowser} browser
  * @param {string} folder
- * @param {number} width
- * @param {string} scheme
+ * @param {import("./scenes.mjs").Scene} scene
+ * @param {{[name: string]: {[part: string]: number[]}}} shapes
  */
-async function look(browser, folder, width, scheme) {
+async function look(browser, folder, { name, width, height, scheme = "light", media = [], paper = false, show }, shapes) {
   const hands = new Hands(browser);
-  const height = width > 1000 ? 800 : 2300;
   await browser.size(width, height, scheme);
-  await hands.story("lost_update");
-  for (let count = 0; count < 19; count++) await hands.act("next");
-  await browser.run("rewind.page.pointing.choose('g0.3#3').then(() => rewind.page.views.picture.reveal('g0.2#2'))");
+  await browser.call("Emulation.setEmulatedMedia", { media: paper ? "print" : "", features: [{ name: "prefers-color-scheme", value: scheme }, ...media] });
+  await show(hands);
   await hands.idle();
-  assert.deepEqual(await browser.run(`(${faintTexts})(${ENOUGH})`), [], `faint texts at ${width}, ${scheme}`);
-  assert.deepEqual(await browser.run(`(${unnamed})()`), [], `controls without a name at ${width}`);
-  assert.deepEqual(await browser.run("document.documentElement.scrollWidth"), width, `width of the page at ${width}`);
-  assert.deepEqual(await browser.run(`(${clippedLabels})()`), [], `clipped labels at ${width}`);
-  await browser.run("document.getElementById('picture').focus()");
-  await browser.shot(`${folder}/page-${width}-${scheme}.png`);
-  await hands.program("number_too_large");
-  assert.deepEqual(await browser.run(`(${faintTexts})(${ENOUGH})`), [], `faint texts of a refusal at ${width}, ${scheme}`);
-  assert.ok((await browser.run(`(${besideNote})()`)) < 12, `the note of a refusal takes the width at ${width}`);
-  await browser.shot(`${folder}/refused-${width}-${scheme}.png`);
-  await lookAtHelp(browser, folder, `${width}-${scheme}`);
+  await browser.run("new Promise((go) => setTimeout(go, 120))"); // sizes are told a frame later
+  await browser.shot(`${folder}/${name.replaceAll(" ", "-")}.png`, paper);
+  if (!media.length) assert.deepEqual(await browser.run(`(${faintTexts})(${ENOUGH})`), [], "texts are not faint");
+  assert.deepEqual(await browser.run(`(${unnamed})()`), [], "controls have names");
+  assert.ok((await browser.run("document.documentElement.scrollWidth")) <= width, "nothing is wider than the window");
+  assert.deepEqual(await browser.run(`(${clippedLines})()`), [], "no line is clipped");
+  const is = await browser.run(`(${shapesOf})()`);
+  if (process.env.SHAPES === "write") shapes[name] = is;
+  else assert.deepEqual(moved(is, shapes[name] || {}), [], "each part stands where it stood");
+  await leave(hands);
 }
 
-// What a class looks at: a deadlock, a fault, what a rollback would take, an exercise, a past state, and a deadlock in presentation.
-const SCENES = {
-  /** @param {Hands} hands */
-  async deadlock(hands) {
-    await hands.story("deadlock");
-    await hands.perform("run 100");
-  },
-  /** @param {Hands} hands */
-  async fault(hands) {
-    await hands.story("send_on_closed");
-    await hands.perform("run 100");
-  },
-  /** @param {Hands} hands */
-  async preview(hands) {
-    await hands.story("lost_update");
-    await hands.perform("run 100");
-    await hands.browser.run("rewind.page.pointing.show('g0.1#5')");
-    await hands.until("document.querySelector('#preview s')");
-  },
-  /** @param {Hands} hands */
-  async exercise(hands) {
-    await hands.story("untie_the_deadlock");
-  },
-  /** @param {Hands} hands */
-  async past(hands) {
-    await SCENES.deadlock(hands);
-    await hands.browser.run("rewind.page.past.lookAt(9)");
-  },
-  /** @param {Hands} hands */
-  async presentation(hands) {
-    await SCENES.deadlock(hands);
-    await hands.act("present");
-  },
-};
-
-/**
- * @param {TestBrowser} browser
- * @param {string} folder
- * @param {number} width
- * @param {string} scheme
- */
-async function lookAtScenes(browser, folder, width, scheme) {
-  const hands = new Hands(browser);
-  await browser.size(width, HEIGHTS[width], scheme);
-  for (const [name, show] of Object.entries(SCENES)) {
-    await show(hands);
-    await hands.idle();
-    if (name !== "past") assert.deepEqual(await browser.run(`(${faintTexts})(${ENOUGH})`), [], `faint texts of ${name} at ${width}, ${scheme}`);
-    assert.deepEqual(await browser.run("document.documentElement.scrollWidth"), width, `width of ${name} at ${width}`);
-    await browser.shot(`${folder}/${name}-${width}-${scheme}.png`);
-    if (name === "presentation") await hands.act("present");
-  }
+// What a scene has opened is closed again.
+/** @param {Hands} hands */
+async function leave({ browser }) {
+  await browser.call("Emulation.setEmulatedMedia", { media: "", features: [] });
+  await browser.run("document.querySelectorAll('dialog[open]').forEach((it) => it.close()), document.body.click(), 0");
+  await browser.run("document.body.classList.contains('presentation') && rewind.act(rewind.page, 'present'), rewind.page.views.windows.show('picture'), rewind.page.tour.leave(), 0");
+  await browser.run("document.querySelectorAll('.menu:not([hidden])').forEach((it) => document.querySelector(`[aria-controls=${it.id}]`).click()), 0");
 }
 
 /**
@@ -166,6 +111,7 @@ async function lookAtScenes(browser, folder, width, scheme) {
  * @param {string} folder
  */
 export async function looks(t, browser, folder) {
-  for (const width of [1280, 400]) for (const scheme of SCHEMES) await t.test(`page, refusal and help at ${width}, ${scheme}`, () => look(browser, folder, width, scheme));
-  for (const width of Object.keys(HEIGHTS).map(Number)) for (const scheme of SCHEMES) await t.test(`scenes at ${width}, ${scheme}`, () => lookAtScenes(browser, folder, width, scheme));
+  const shapes = JSON.parse(readFileSync(SHAPES, "utf8"));
+  for (const scene of SCENES) await t.test(scene.name, () => look(browser, folder, scene, shapes));
+  if (process.env.SHAPES === "write") writeFileSync(SHAPES, `${JSON.stringify(shapes, null, 1).replaceAll(/\[\s+(\d+),\s+(\d+),\s+(\d+),\s+(\d+)\s+\]/g, "[$1, $2, $3, $4]")}\n`);
 }

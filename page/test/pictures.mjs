@@ -16,7 +16,7 @@ async function pictureInPage({ story, until, point, title }) {
   }
   await page.settled();
   await page.pointing.show(point);
-  return savePicture(page, { title, labels: "kind", hasLegend: false });
+  return savePicture(page, { title, hasLegend: false });
 }
 
 const browser = await Browser.open();

@@ -3,6 +3,7 @@
 
 import assert from "node:assert/strict";
 import { basename } from "node:path";
+import { realGo } from "./carrying.mjs";
 import { drawings } from "./drawings.mjs";
 import { inputMethods } from "./insertions.mjs";
 import { looks } from "./looks.mjs";
@@ -12,6 +13,7 @@ import { sessions } from "./sessions.mjs";
 import { firstStory, stories } from "./story.mjs";
 import { access } from "./access.mjs";
 import { lessons } from "./lesson.mjs";
+import { roomAndRank } from "./room.mjs";
 import { saidWords } from "./words.mjs";
 import { hastyMonkey, monkey } from "./monkey.mjs";
 import { speed } from "./speed.mjs";
@@ -51,8 +53,10 @@ const ALL = [
   { name: "work that is kept", part: works },
   { name: "words", part: saidWords },
   { name: "input methods", part: inputMethods },
+  { name: "room and rank", part: roomAndRank },
   { name: "for everybody", part: access },
   { name: "for a lesson", part: lessons },
+  { name: "real Go", part: (/** @type {TestContext} */ t, /** @type {TestBrowser} */ browser) => realGo(t, browser, PAGE) },
   { name: "drawings", part: drawings },
   { name: "long logs", part: speed },
   { name: "a monkey", part: (/** @type {TestContext} */ t, /** @type {TestBrowser} */ browser) => monkey(t, browser, given(25, 1)) },

@@ -27,7 +27,7 @@ async function takeBackAndDoAgain(hands) {
   assert.equal(await hands.goroutine("g0"), "g0 ready at line 13, 5 steps main numbers = g0/c1 Step", "the receiver");
   await hands.click("#redo");
   assert.deepEqual(await hands.lastReply(), ["> redo", "ok 3 g0#6 g0#7 g0.1#6"], "another click does it again");
-  assert.equal(await hands.channel("g0/c1"), "g0/c1 numbers, out closed, room for 0 items none senders none receivers none", "the channel is closed again");
+  assert.equal(await hands.channel("g0/c1"), "numbers (g0/c1) also out closed, room for 0 items none senders none receivers none", "the channel is closed again");
   await hands.key("u");
   assert.deepEqual(await hands.lastReply(), ["> undo", "ok g0.1#6"], "undo by a key");
 }
@@ -52,7 +52,7 @@ async function pickClauses(hands) {
   await hands.clickLabel("Step g0.1");
   await hands.clickLabel("Step g0.2");
   assert.equal(await hands.goroutine("g0"), "g0 ready at line 11, 5 steps main left = g0/c1 right = g0/c2 Step 1: v := <-left 2: v := <-right", "both clauses are offered");
-  assert.equal(await hands.channel("g0/c2"), "g0/c2 right, out open, room for 0 items none senders g0.2=2 receivers none", "a sender waits");
+  assert.equal(await hands.channel("g0/c2"), "right (g0/c2) also out open, room for 0 items none senders g0.2=2 receivers none", "a sender waits");
   await hands.clickLabel("Case 2: v := <-right, of g0");
   assert.deepEqual(await hands.lastReply(), ["> step g0 2", "ok g0#6 pick 2"], "the second clause");
   await hands.key("u");
@@ -87,7 +87,8 @@ async function exchangeNeighbours(hands) {
 /** @param {Hands} hands */
 async function refusals(hands) {
   await hands.program("number_too_large");
-  assert.ok((await hands.text(".refusal-note")).includes("(rewind: C7 at 2:"), "a refusal stands at its line");
+  assert.ok(/does not fit int/.test(await hands.text(".refusal-note")) && !/C7/.test(await hands.text(".refusal-note")), "a refusal stands at its line, in words");
+  assert.ok((await hands.lastReply())[0].includes("(rewind: C7 at 2:"), "and with its code among the replies");
   assert.equal((await hands.text("#refusal")).slice(0, 19), "Refused at line 2: ", "and in words");
   await hands.program("bad_commands");
   await hands.type("step g0.9");
@@ -126,7 +127,7 @@ async function longRuns(hands, t) {
   assert.equal(await hands.browser.run("rewind.page.session.log.length"), 5000, "five thousand steps");
   assert.ok((await hands.drawn()).length < 80, "few of them are drawn");
   await hands.browser.run("document.getElementById('picture').scrollTop = 40000");
-  await hands.until(`document.querySelector('#picture [data-step]') && Number(document.querySelector('#picture [data-step] .number').textContent) > 1500`);
+  await hands.until(`Number(document.querySelector('#picture [data-step]')?.getAttribute('aria-posinset')) > 1500`);
   const scrolled = await hands.browser.run(`(${timeOfDrawing})()`);
   t.diagnostic(`a picture of 5,000 steps is drawn anew in ${scrolled.toFixed(1)} ms`);
   await hands.story("lost_update");

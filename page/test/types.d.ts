@@ -12,7 +12,7 @@ interface TestBrowser {
   key(key: string, modifiers?: number): Promise<void>;
   mouse(type: string, x: number, y: number, buttons?: number): Promise<void>;
   click(x: number, y: number): Promise<void>;
-  shot(file: string): Promise<void>;
+  shot(file: string, whole?: boolean): Promise<void>;
   takeFaults(): Promise<void>;
   close(): Promise<void>;
 }

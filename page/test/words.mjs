@@ -15,7 +15,7 @@ async function states(hands) {
   assert.deepEqual(await hands.browser.run("[...document.querySelectorAll('#picture .cycle-word')].map((it) => it.textContent)"), ["g0.1 waits for g0.2", "g0.2 waits for g0.1"], "which is drawn");
   await hands.story("send_on_closed");
   await hands.key("r");
-  assert.equal(await hands.text("#state"), "Panic in g0.1#6 at line 5: a send on a closed channel (SendOnClosed). It depends on g0#6.", "a panic is told with its step, line, meaning and cause");
+  assert.equal(await hands.text("#state"), "Panic in g0.1#6 at line 5: a send on a closed channel. It depends on g0#6.", "a panic is told with its step, line, meaning and cause");
   assert.equal(await hands.browser.run("/\\bready\\b/.test(document.getElementById('goroutines').innerText)"), false, "nobody is called ready after a panic");
   await hands.story("leaked_goroutine");
   await hands.key("r");
@@ -105,7 +105,7 @@ async function byMouse(hands) {
 /** @param {Hands} hands */
 async function wordsOfTheShell(hands) {
   await hands.story("deadlock");
-  const answers = { why: /'why' is a word of the shell\. Here the line above/, "history 3": /here the picture shows/i, "run 1,000": /digits alone, as in 'run 1000'/, nothing: /Help lists them/ };
+  const answers = { why: /'why' is a word of the shell\. Here the tab Why/, "history 3": /here the picture shows/i, "run 1,000": /digits alone, as in 'run 1000'/, nothing: /the help lists them/ };
   for (const [line, said] of Object.entries(answers)) {
     await hands.perform(line);
     assert.ok(said.test(await hands.text("#status")) && said.test((await hands.lastReply()).join(" ")), `'${line}' is answered with where it is to be had`);
@@ -162,7 +162,7 @@ async function manyWaiters(hands) {
   assert.ok(heights.length === 3 && heights.every((/** @type {number} */ it) => it < 30), "the names of queues stand in one line, also beside many waiters");
 }
 
-// On a narrow screen the button beside a step leaves its mark free.
+// On a narrow screen the button that takes a step back leaves its mark free.
 /** @param {Hands} hands */
 async function narrow(hands) {
   await hands.browser.size(390, 844);
@@ -172,11 +172,12 @@ async function narrow(hands) {
   for (const id of await hands.ids()) {
     await hands.browser.run(`rewind.page.pointing.show(${JSON.stringify(id)})`);
     await hands.idle();
-    const over = `(() => { const [one, other] = [document.querySelector('#picture .take-back rect'), document.querySelector('[data-step="${id}"] .mark')].map((it) => it.getBoundingClientRect());
-      return one.left < other.right && other.left < one.right && one.top < other.bottom && other.top < one.bottom; })()`;
+    const over = `(() => { const { x, y, width, height } = document.querySelector('[data-mark="${id}"] .mark').getBoundingClientRect();
+      const back = document.getElementById("bar-back").getBoundingClientRect();
+      return Boolean(document.querySelector("#picture .take-back")) || !back.height || !document.elementFromPoint(x + width / 2, y + height / 2).closest("#picture"); })()`;
     if (await hands.browser.run(over)) covered.push(id);
   }
-  assert.deepEqual(covered, [], "on a narrow screen no 'take back' covers the mark of its step");
+  assert.deepEqual(covered, [], "on a narrow screen 'Take back' is in the bar, and nothing covers the mark of its step");
   await hands.browser.size(1280, 800);
 }
 

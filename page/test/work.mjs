@@ -62,7 +62,7 @@ async function refusedTexts(hands) {
   assert.ok(/The session is still that of the text before/.test(await hands.text("#status")), "the page says so");
   assert.ok(/undeclared name: seven/.test(await hands.text(".refusal-note")), "and names what is not declared");
   assert.deepEqual(await hands.texts(".refused-word"), ["seven"], "and marks it");
-  assert.deepEqual(await hands.lastReply(), ["The source in the editor is refused. The session is still that of the text before."], "the commands and replies tell of it last");
+  assert.deepEqual(await hands.lastReply(), ["The source in the editor is refused (rewind: C1 at 3:2). The session is still that of the text before."], "the commands and replies tell of it last");
   assert.deepEqual(await hands.texts("#editor .at-line"), [], "lines of another text are not marked");
   await hands.source(`package main\nimport "fmt"\nfunc main() {}\n`);
   assert.ok(/import/.test(await hands.text(".refusal-note")) && !/a syntax error/.test(await hands.text(".refusal-note")), "an import is refused in words for students");

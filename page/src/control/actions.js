@@ -9,7 +9,8 @@ import { runAlone, runToLine, stepOver } from "./moves.js";
 import { savePicture } from "../picture/saving.js";
 import { search } from "./asking.js";
 import { showCompared } from "../panes/compare.js";
-import { openTask } from "../lessons/tasks.js";
+import { nextTask, openTask } from "../lessons/tasks.js";
+import { ownText } from "./keeping.js";
 
 /** @typedef {import("./page.js").Page} Page */
 
@@ -86,8 +87,10 @@ async function savePng(page) {
 // Presentation: picture and source alone, in large letters. Its own button leads out of it, since the header is gone.
 /** @param {Page} page */
 function present(page) {
+  page.tour.leave();
   const isOn = document.body.classList.toggle("presentation");
   find("present").setAttribute("aria-pressed", String(isOn));
+  page.views.tabs.show(isOn ? "console" : "state");
   page.views.picture.zoom(isOn ? 2 : -2);
   page.views.editor.refresh();
 }
@@ -111,7 +114,27 @@ function direct(page) {
 /** @type {{[name: string]: (page: Page) => unknown}} */
 const ACTIONS = {
   start: (page) => page.open(),
+  again: (page) => page.open(),
+  restart: (page) => page.open(),
+  own: ownProgram,
   next: nextOfStory,
+  "tell-it": nextOfStory,
+  "run-it": run,
+  "run-on": run,
+  "show-why": (page) => {
+    page.views.tabs.show("why");
+    page.views.windows.show("state");
+  },
+  "show-line": (page) => {
+    page.views.windows.show("source");
+    page.views.editor.reveal(page.refusedLine);
+    page.views.editor.focus();
+  },
+  "bar-back": (page) => page.pointing.takeBack(page.pointing.pinned),
+  "next-task": nextTask,
+  "tour-again": (page) => page.tour.begin(),
+  "tour-next": (page) => page.tour.go(),
+  "tour-leave": (page) => page.tour.leave(),
   step: (page) => page.step(page.chosen),
   over: stepOver,
   alone: runAlone,
@@ -151,12 +174,26 @@ export function act(page, name) {
   return void ACTIONS[name](page);
 }
 
+// A program of one's own: the last one, or a small one to begin with. The text before comes back by undoing in the editor.
+/** @param {Page} page */
+async function ownProgram(page) {
+  const { stories, editor, windows } = page.views;
+  if (stories.isOf(editor.text)) {
+    stories.choose("");
+    editor.text = ownText();
+    await page.open();
+  }
+  windows.show("source");
+  editor.focus();
+}
+
 // Turns to a story, an exercise or a program of one's own. The text before can be brought back by undoing in the editor.
 /**
  * @param {Page} page
  * @param {string} name
  */
 export async function openStory(page, name) {
+  page.tour.leave();
   const source = page.views.stories.choose(name);
   if (source) page.views.editor.text = source;
   const isOpen = await page.open();
@@ -182,7 +219,7 @@ function listenToHistory() {
 /** @param {Page} page */
 function listenToFields(page) {
   listenToHistory();
-  find("story").onchange = () => void openStory(page, field("story").value);
+  find("story").onchange = () => void (field("story").value ? openStory(page, field("story").value) : ownProgram(page));
   find("ask").onsubmit = async (event) => {
     event.preventDefault();
     const line = field("line").value;

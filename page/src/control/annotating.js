@@ -3,6 +3,7 @@
 import { isUnanswered } from "../engine/remote.js";
 import { erred } from "./losses.js";
 import { pause } from "../element.js";
+import { shownOf } from "../picture/shown.js";
 import { standingOf } from "../waiting/standing.js";
 import { starterOf } from "./finding.js";
 
@@ -81,7 +82,7 @@ export class Annotating {
   show() {
     const { page } = this;
     this.functions();
-    page.views.picture.update(this.edges());
+    if (page.session) page.views.picture.update({ log: page.session.log, ...shownOf(page) }, this.edges());
     page.views.overview.draw();
     page.views.columns.show(page);
     page.pointing.draw();
@@ -116,7 +117,7 @@ export class Annotating {
     for (const [from, to] of session.log.length <= WHOLE ? ranges.slice(1) : ranges) {
       while (!isOld() && !(await session.follower.inTurn(() => session.follower.annotate(from, to)))) {
         if (performance.now() - shown < 400) continue;
-        this.page.views.picture.update(this.edges());
+        this.page.views.picture.update({ log: session.log, ...shownOf(this.page) }, this.edges());
         shown = performance.now();
       }
     }

@@ -5,6 +5,19 @@ import { checked } from "./linking.js";
 const KEY = "rewind";
 const SETTINGS = "rewind-settings";
 const MOST = 2000000; // letters
+const MOST_OWN = 200000; // letters of a program of one's own that is kept beside the work
+const START = `package main
+
+func give(c chan int) {
+	c <- 1
+}
+
+func main() {
+	c := make(chan int)
+	go give(c)
+	println(<-c)
+}
+`;
 
 // The store of the browser, or nothing where it gives none to this page.
 function store() {
@@ -33,6 +46,16 @@ export function kept() {
     return null;
   }
 }
+
+// The last program of one's own, or a small one to begin with.
+export function ownText() {
+  const { own } = settings();
+  return typeof own === "string" && own.trim() ? own : START;
+}
+
+// Keeps a program of one's own, which a story may replace.
+/** @param {string} text */
+export const keepOwn = (text) => text.length <= MOST_OWN && keepSettings({ own: text });
 
 /** @returns {{[name: string]: any}} */
 export function settings() {

@@ -6,10 +6,14 @@ import { showBreaks, takeBreaks } from "./breaks.js";
 import { SessionGone } from "../engine/remote.js";
 import { Refused, Session } from "../session/session.js";
 import { endOfRun } from "../panes/words.js";
+import { carryButton } from "../panes/carrying.js";
 import { explain } from "../refused/refusals.js";
+import { lastOf } from "./finding.js";
 import { blinded, erred, lost } from "./losses.js";
 import { Past } from "./past.js";
 import { Pointing } from "./pointing.js";
+import { Tour } from "../lessons/tour.js";
+import { shownOf } from "../picture/shown.js";
 
 const PORTION = 2000; // a run of more steps shows how far it is
 const LONGEST_LINE = 1000000; // bytes: the program takes no longer ones
@@ -36,6 +40,7 @@ export class Page {
     this.busy = 0; // how many things are being done
     this.isMoving = false;
     this.isMending = false; // after an error of the page
+    this.refusedLine = 0; // of the source that was refused last
     this.stamp = 0; // of the state that is shown
     /** @type {import("../waiting/standing.js").Standing | null} */
     this.standing = null;
@@ -44,6 +49,7 @@ export class Page {
     this.annotating = new Annotating(this);
     /** @type {((page: Page) => void)[]} */
     this.listeners = []; // told after each change of what is shown
+    this.tour = new Tour(this);
   }
 
   /**
@@ -52,6 +58,7 @@ export class Page {
    */
   say(text, tone = "") {
     this.views.status.say(text, tone);
+    this.views.state.show(this);
   }
 
   // Counts something that is being done, and shows that it is.
@@ -78,6 +85,7 @@ export class Page {
     const opening = ++this.openings;
     views.editor.clearRefusal();
     views.refusal.clear();
+    this.refusedLine = 0;
     return this.doing(async () => {
       try {
         const session = await Session.open(machine, text);
@@ -102,11 +110,12 @@ export class Page {
     const explained = explain(this.given.refusals, text, refusal);
     const instead = explained.instead ? ` Write instead: ${explained.instead}` : "";
     const hint = explained.hint ? ` Hint: ${explained.hint}.` : "";
-    const message = `${explained.sentence}.${instead}${hint} (${refusal.text})`;
-    const isAtItsLine = this.views.editor.refuse(explained, message);
+    const message = `${explained.sentence}.${instead}${hint}`;
+    this.refusedLine = explained.line;
+    const isAtItsLine = this.views.editor.refuse(explained, message, carryButton(this, text));
     this.views.refusal.show(explained.line ? `Refused at line ${explained.line}: ${message}` : `Refused: ${message}`, isAtItsLine);
     const kept = this.session ? " The session is still that of the text before." : "";
-    this.views.transcript.fault(`The source in the editor is refused.${kept}`);
+    this.views.transcript.fault(`The source in the editor is refused (${refusal.text}).${kept}`);
     this.say(`${explained.line ? `The source is refused at line ${explained.line}: ` : "The source is refused: "}${explained.sentence}.${kept}`, "bad");
   }
 
@@ -132,6 +141,16 @@ export class Page {
   // The goroutines that wait for each other, where it was found that some do.
   get cycle() {
     return this.standing?.cycle || [];
+  }
+
+  // The steps in which goroutines began to wait that are stuck: all in a deadlock, and leaks behind the end.
+  get stuck() {
+    const { session, standing } = this;
+    if (!session?.log.length) return new Set();
+    const isDeadlock = session.scene.isStuck && !session.log.isOver;
+    const waiting = isDeadlock ? session.scene.goroutines.filter(({ state }) => state === "waiting").map(({ name }) => name) : [];
+    const leaks = (standing?.fates || []).filter(({ ending }) => ending === "wait").map(({ goroutine }) => goroutine);
+    return new Set([...waiting, ...leaks].map((name) => lastOf(session, name)));
   }
 
   // Why no command can be given now, or "".
@@ -252,6 +271,7 @@ export class Page {
     return this.doing(act).finally(() => {
       this.isMoving = false;
       this.views.status.progress(0, 0);
+      this.showControls();
     });
   }
 
@@ -310,7 +330,7 @@ export class Page {
 
   showPicture() {
     const { session, views } = this;
-    if (session) views.picture.show(session.log, this.annotating.functions(), this.note, this.annotating.edges());
+    if (session) views.picture.show({ log: session.log, ...shownOf(this) }, this.annotating.edges());
     views.overview.draw();
     views.columns.show(this);
   }

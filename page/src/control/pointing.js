@@ -130,7 +130,7 @@ export class Pointing {
     const base = about ? { ...this.view, causes: isDirect ? this.directCauses(String(about?.id)) : this.view.causes } : NOTHING_POINTED;
     page.views.picture.mark({
       ...base, pointed: about?.id || "", isKept: Boolean(this.pinned), forbids: this.forbids, count: about && !page.past.isOn ? about.consequences + 1 : 0,
-      cycle: page.past.isOn ? [] : page.cycle, found: this.found, last: page.past.isOn ? page.past.row : Infinity, direct: isDirect,
+      cycle: page.past.isOn ? [] : page.cycle, stuck: page.past.isOn ? new Set() : page.stuck, found: this.found, last: page.past.isOn ? page.past.row : Infinity, direct: isDirect,
     });
     page.views.overview.draw();
     const isOfText = page.session?.source === page.views.editor.text;

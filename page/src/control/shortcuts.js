@@ -35,14 +35,41 @@ export function listenToKeys(page) {
     { keys: ["n"], says: "the next command of the story", act: does("next") },
     { keys: [",", "."], shown: ", and .", says: "look at the state one step before, or after", act: (/** @type {string} */ key) => look(page, key === "," ? -1 : 1) },
     { keys: ["v"], says: "presentation: picture and source alone, in large letters", act: does("present") },
-    { keys: ["p"], says: "to the picture", act: () => focus("picture") },
-    { keys: ["/"], says: "to the field of commands", act: () => focus("line") },
-    { keys: ["e"], says: "to the source (Ctrl+Enter starts it, Tab leaves it)", act: () => page.views.editor.focus() },
+    { keys: ["p"], says: "to the picture", act: () => toPicture(page) },
+    { keys: ["f"], says: "find steps", act: () => focus("search-text") },
+    { keys: ["/"], says: "to the field of commands", act: () => toCommands(page) },
+    { keys: ["e"], says: "to the source (Ctrl+Enter starts it, Tab leaves it)", act: () => toSource(page) },
+    { keys: ["t"], says: "to the next tab of the panel", act: () => nextTab(page) },
     { keys: ["?"], says: "this page of keys", act: () => find("help").click() },
   ];
   const keys = new Keys(table, () => field("letters").checked);
   keys.show(find("keys"));
   find("keys").append(...IN_PICTURE.map(([key, says]) => tableRow("kbd", key, `in the picture: ${says}`)));
+}
+
+/** @param {Page} page */
+function toCommands(page) {
+  page.views.tabs.show("commands");
+  page.views.windows.show("state");
+  find("line").focus();
+}
+
+/** @param {Page} page */
+function toSource(page) {
+  page.views.windows.show("source");
+  page.views.editor.focus();
+}
+
+/** @param {Page} page */
+function toPicture(page) {
+  page.views.windows.show("picture");
+  find("picture").focus();
+}
+
+/** @param {Page} page */
+function nextTab({ views: { tabs } }) {
+  const names = tabs.tabs.map(({ id }) => id.slice("tab-".length));
+  tabs.show(names[(names.indexOf(tabs.name) + 1) % names.length]);
 }
 
 /**

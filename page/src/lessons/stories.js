@@ -2,6 +2,10 @@
 
 import { make } from "../element.js";
 
+const LETTERS = 68; // of a line, about
+const MOST_LINES = 6;
+const LINE = 1.14; // the height of a line, and what is around them, as parts of a letter
+const PADDING = 1.1;
 const LEVELS = ["", "Exercises: first steps", "Exercises: find the cause", "Exercises: make it happen"];
 
 export class Stories {
@@ -36,6 +40,18 @@ export class Stories {
     this.menu.value = this.story || this.exercise ? name : "";
     this.show();
     return (this.story || this.exercise)?.source || "";
+  }
+
+  // The exercise behind the one at hand, or nothing.
+  get nextExercise() {
+    const at = this.exercises.findIndex(({ name }) => name === this.exercise?.name);
+    return at < 0 ? undefined : this.exercises[at + 1];
+  }
+
+  // Marks exercises that were solved.
+  /** @param {string[]} names */
+  markSolved(names) {
+    for (const option of this.menu.options) if (names.includes(option.value)) option.textContent = `✓ ${String(option.textContent).replace(/^✓ /, "")}`;
   }
 
   get name() {
@@ -79,9 +95,18 @@ export class Stories {
     this.show();
   }
 
+  // The lines that the longest paragraph of the story takes, so that none of them moves what is below it.
+  linesOf() {
+    const shows = this.story?.shows || "";
+    const texts = this.exercise ? [`${this.exercise.task}${" ".repeat(3 * LETTERS)}`] : [`${shows} ${this.commands[0]?.text || ""}`, ...this.commands.map(({ text }) => text)];
+    const longest = Math.max(...texts.map(({ length }) => length));
+    return Math.max(1, Math.min(MOST_LINES, Math.ceil(longest / LETTERS)));
+  }
+
   show() {
     const isOver = this.at > 0 && this.at >= this.commands.length;
     const last = this.commands.slice(0, this.at + 1).filter(({ text }) => text).at(-1)?.text || "";
+    this.about.parentElement?.style.setProperty("--told-height", `${this.linesOf() * LINE + PADDING}rem`);
     const told = isOver ? "That was the story. Go on by yourself: point at steps, take them back." : last;
     const shows = this.story?.shows || "";
     if (told && this.at) return this.about.replaceChildren(told);

@@ -1,7 +1,9 @@
-// The exercise at hand: its task, its hint, and whether the session as it stands is what it asks for.
+// The exercise at hand: its task, its hint, what is missing until it is solved, and the one that comes next.
 
 import { find } from "../element.js";
-import { isReached } from "./exercises.js";
+import { missing } from "./exercises.js";
+import { openStory } from "../control/actions.js";
+import { keepSettings, settings } from "../control/keeping.js";
 
 /** @typedef {import("../control/page.js").Page} Page */
 
@@ -15,23 +17,57 @@ export async function openTask(page) {
   showTask(page);
 }
 
+// What is missing of the exercise at hand, or "".
+/**
+ * @param {Page} page
+ * @param {Exercise} exercise
+ * @param {import("../session/session.js").Session} session
+ */
+function missingOf({ cycle, pointing }, { before, goal }, session) {
+  const prepared = before.every((line, at) => session.commands[at] === line) ? before.length : 0;
+  const { log, scene } = session;
+  return missing(goal, { log, scene, cycle, pinned: pointing.pinned, commands: session.commands.slice(prepared) });
+}
+
 /** @param {Page} page */
 function showTask(page) {
-  const { session, views, cycle, pointing } = page;
-  const { exercise } = views.stories;
+  const { session, views } = page;
+  const { exercise, nextExercise } = views.stories;
   find("task").hidden = !exercise || !views.stories.isOf(session?.source || "");
   if (!exercise || !session) return;
-  const { log, scene } = session;
-  const prepared = exercise.before.every((line, at) => session.commands[at] === line) ? exercise.before.length : 0;
-  const isDone = isReached(exercise.goal, { log, scene, cycle, pinned: pointing.pinned, commands: session.commands.slice(prepared) });
+  const lacks = missingOf(page, exercise, session);
   find("task-text").textContent = exercise.task;
   find("task-hint").textContent = exercise.hint;
-  const verdict = isDone ? "Solved." : "Not yet.";
+  const verdict = lacks ? `Not yet: ${lacks}.` : "Solved.";
   if (find("task-verdict").textContent !== verdict) find("task-verdict").textContent = verdict;
-  find("task").classList.toggle("solved", isDone);
+  find("task").classList.toggle("solved", !lacks);
+  find("next-task").hidden = Boolean(lacks) || !nextExercise;
+  if (nextExercise) find("next-task").textContent = `Next exercise: ${nextExercise.title}`;
+  if (!lacks) markSolved(page, exercise.name);
+}
+
+// An exercise that was solved once has a sign in the menu.
+/**
+ * @param {Page} page
+ * @param {string} name
+ */
+function markSolved({ views: { stories } }, name) {
+  const solved = new Set(settings().solved || []);
+  if (solved.has(name)) return;
+  solved.add(name);
+  keepSettings({ solved: [...solved] });
+  stories.markSolved([name]);
+}
+
+/** @param {Page} page */
+export async function nextTask(page) {
+  const { nextExercise } = page.views.stories;
+  if (nextExercise) await openStory(page, nextExercise.name);
 }
 
 /** @param {Page} page */
 export function watchExercise(page) {
+  const { solved } = settings();
+  if (Array.isArray(solved)) page.views.stories.markSolved(solved);
   page.listeners.push(showTask);
 }

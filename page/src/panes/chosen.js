@@ -9,36 +9,41 @@ import { withoutStep } from "../control/finding.js";
 
 const PREVIEWED = 20000; // steps: of a longer log no preview is made
 
-// One sentence on a step, for those who see the picture and those who do not.
+// One sentence on a step, for those who see the picture and those who do not. `does` gives a kind in words.
 /**
  * @param {Step} step
  * @param {Note | undefined} note
  * @param {number} count
+ * @param {(kind: string) => string} does
  */
-export function describeStep({ id, kind, row }, note, count) {
+export function describeStep({ id, kind, row }, note, count, does) {
   const statement = note?.statement ? `, ${note.statement.text.replace(/\s+/g, " ")}` : "";
   const taken = note?.taken ? `, case ${note.taken.replace(/\s+/g, " ")}` : "";
   const received = note?.received ? `, received ${note.received}${note.part ? ` by ${note.part}` : ""}` : "";
   const line = note?.line ? `, line ${note.line}` : "";
   const printed = note?.printed.length ? `, printed ${note.printed.join("; ")}` : "";
-  return `${id}, ${kind}${line}${statement}${taken}${received}${printed}, ${row + 1} of ${count}`;
+  return `${id}, ${does(kind)}${line}${statement}${taken}${received}${printed}, ${row + 1} of ${count}`;
 }
 
 // What is said where no step is chosen.
 /** @param {Page} page */
 function hint({ session }) {
   if (!session) return "There is no session.";
-  if (!session.log.length) return "No step was taken yet: press Step, Run, or Next in story.";
-  return "Point at a step: its causes and its consequences get a colour. Click it to keep it chosen.";
+  if (!session.log.length) return "No step was taken yet.";
+  return "Point at a step: what it is because of turns blue, and what goes with it orange. Click it to keep it chosen.";
 }
 
 /** @param {Page} page */
 export function showChosen(page) {
-  const { session } = page;
+  const { session, views } = page;
   const { about, pinned } = page.pointing;
-  for (const id of ["back", "earlier", "later"]) enable(id, Boolean(about && pinned) && !page.past.isOn);
-  const back = /** @type {ChildNode} */ (find("back").firstChild);
-  back.textContent = about && pinned ? `Take back ${about.consequences + 1}` : "Take back";
+  const isChosen = Boolean(about && pinned);
+  for (const id of ["earlier", "later"]) enable(id, isChosen && !page.past.isOn);
+  for (const id of ["back", "bar-back"]) enable(id, isChosen && !page.past.isOn && !page.hindrance);
+  find("moving").hidden = !isChosen;
+  find("bar-back").textContent = isChosen && about ? `Take back ${(about.consequences + 1).toLocaleString("en")}` : "Take back";
+  views.tabs.follow(isChosen);
+  views.state.show(page);
   if (!pinned) find("course").replaceChildren();
   if (!about || !session) {
     find("chosen-text").replaceChildren(hint(page));
@@ -46,7 +51,7 @@ export function showChosen(page) {
     return;
   }
   const step = session.log.step(session.log.row(about.id));
-  const said = `${describeStep(step, page.note(about.id), session.log.length)}. It depends on `;
+  const said = `${describeStep(step, page.note(about.id), session.log.length, (kind) => page.words.kind(kind))}. It depends on `;
   const causes = make("span", { class: "cause-word" }, `${inSteps(about.causes)} ↑`);
   const consequences = make("span", { class: "consequence-word" }, `${inSteps(about.consequences)} ↓`);
   const on = about.consequences === 1 ? "; on it depends " : "; on it depend ";
@@ -75,7 +80,9 @@ async function showPreview(page, id) {
   try {
     const without = await withoutStep(session, id);
     if (host.dataset.of !== key || page.session !== session || !without) return;
-    host.replaceChildren(make("p", {}, make("strong", {}, `Taken back, ${inSteps(without.count)} would go:`)), previewList(differences(session.scene, without.scene)));
+    const stay = session.log.length - without.count;
+    const counts = make("p", {}, make("strong", {}, `${inSteps(without.count)} would go, and ${stay.toLocaleString("en")} stay:`));
+    host.replaceChildren(counts, previewList(differences(session.scene, without.scene)));
   } catch (fault) {
     if (!isUnanswered(fault)) throw fault;
   }

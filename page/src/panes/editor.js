@@ -40,10 +40,8 @@ export class Editor {
     this.refusal = [];
     this.editor.on("change", () => on.change());
     this.editor.on("renderLine", (/** @type {any} */ _, /** @type {any} */ line, /** @type {HTMLElement} */ shown) => this.indentRest(line, shown));
-    this.editor.on("gutterClick", (/** @type {any} */ _, /** @type {number} */ line, /** @type {string} */ gutter) => {
-      if (gutter === "where") on.stepsOf(line + 1);
-      else on.toggleBreak(line + 1);
-    });
+    this.editor.on("gutterClick", (/** @type {any} */ _, /** @type {number} */ line) => on.toggleBreak(line + 1));
+    this.on = on;
     takeInsertions(this.editor);
     this.editor.refresh();
   }
@@ -57,7 +55,7 @@ export class Editor {
     const columns = window.CodeMirror.countColumn(line.text, null, this.editor.getOption("tabSize")) + 2;
     const inset = columns * this.editor.defaultCharWidth();
     shown.style.textIndent = `-${inset}px`;
-    shown.style.paddingLeft = `${4 + inset}px`;
+    shown.style.paddingLeft = `${2 + inset}px`;
   }
 
   get text() {
@@ -93,20 +91,36 @@ export class Editor {
     this.editor.refresh();
   }
 
-  // Marks the statements at which goroutines stand: the names at each.
+  // Marks the statements at which goroutines stand: one change for the editor, which lays out after each.
   /** @param {Goroutine[]} goroutines */
   markPlaces(goroutines) {
+    this.editor.operation(() => this.markPlacesNow(goroutines));
+  }
+
+  // The names at each.
+  /** @param {Goroutine[]} goroutines */
+  markPlacesNow(goroutines) {
     this.clearPlaces();
     /** @type {Map<number, string[]>} */
     const places = new Map();
     for (const { name, line } of goroutines) if (line) places.set(line, [...(places.get(line) || []), name]);
     for (const [line, names] of places) {
       const short = names.length > SHOWN ? `${names[0]} +${names.length - 1}` : names.join(" ");
-      const label = make("div", { class: "at-line", title: `here: ${names.join(", ")}` }, make("b", {}, short));
-      this.editor.setGutterMarker(line - 1, "where", label);
+      this.editor.setGutterMarker(line - 1, "where", this.place(line, short, names));
       const handle = this.editor.addLineClass(line - 1, "background", "stands");
       if (handle) this.marks.push(handle);
     }
+  }
+
+  // The names at the end of a line, which a click asks for its steps.
+  /**
+   * @param {number} line
+   * @param {string} text
+   * @param {string[]} names
+   */
+  place(line, text, names) {
+    const onmousedown = (/** @type {Event} */ event) => event.stopPropagation();
+    return make("div", { class: "at-line", title: `here: ${names.join(", ")}. Press to mark the steps of this line`, onmousedown, onclick: () => this.on.stepsOf(line) }, text);
   }
 
   clearPlaces() {
@@ -127,9 +141,16 @@ export class Editor {
 
   /** @param {Iterable<number>} lines */
   markBreaks(lines) {
+    this.editor.operation(() => this.markBreaksNow(lines));
+  }
+
+  /** @param {Iterable<number>} lines */
+  markBreaksNow(lines) {
     this.editor.clearGutter("breaks");
+    this.editor.eachLine((/** @type {any} */ line) => void this.editor.removeLineClass(line, "gutter", "has-break"));
     for (const line of lines) {
-      this.editor.setGutterMarker(line - 1, "breaks", make("div", { class: "break-mark", title: `breakpoint at line ${line}` }, "●"));
+      this.editor.setGutterMarker(line - 1, "breaks", make("div", { class: "break-mark", title: `breakpoint at line ${line}` }));
+      this.editor.addLineClass(line - 1, "gutter", "has-break");
     }
   }
 
@@ -176,8 +197,9 @@ export class Editor {
   /**
    * @param {{line: number, column: number, length: number, whole: {start: number, end: number} | null}} place
    * @param {string} message
+   * @param {Node | string} more a button, or nothing
    */
-  refuse({ line, column, length, whole }, message) {
+  refuse({ line, column, length, whole }, message, more) {
     this.clearRefusal();
     if (!line || line > this.editor.lineCount()) return false;
     const text = this.editor.getLine(line - 1);
@@ -186,7 +208,7 @@ export class Editor {
     const marks = [this.mark(start, start + Math.max(1, length), "refused-word")];
     if (whole) marks.push(this.mark(whole.start, whole.end, "refused-statement"));
     const handle = this.editor.addLineClass(line - 1, "background", "refused-line");
-    const widget = this.editor.addLineWidget(line - 1, make("div", { class: "refusal-note" }, message), { noHScroll: true });
+    const widget = this.editor.addLineWidget(line - 1, make("div", { class: "refusal-note" }, message, more), { noHScroll: true });
     this.refusal = [() => marks.forEach((mark) => mark.clear()), () => this.editor.removeLineClass(handle, "background", "refused-line"), () => widget.clear()];
     this.reveal(line);
     return true;

@@ -1,17 +1,18 @@
 // Words of the shell that are typed as commands here: where the page has what they tell.
 
-const PANES = "the panes beside the picture show it";
-const MOVES = "the buttons above do it: Step over, Until it waits, Run to line, Run";
+const PANES = "the tab State shows it";
+const MOVES = "the buttons below the picture do it: Step, Run, and the menu beside them";
+const BACK = "press Undo, or choose a step and take it back";
 const PLACES = /** @type {{[word: string]: string}} */ ({
-  why: "the line above the source says who waits, and the words of a deadlock are longer in the shell",
+  why: "the tab Why says who waits for whom",
   history: "the picture shows each step with its line and its values",
-  direct: "choose a step and press Direct",
-  preview: "choose a step: what would go with it is told below the picture",
+  direct: "choose a step, and press 'Only direct causes' in the menu View",
+  preview: "choose a step: the tab 'If you take it back' tells what would go with it",
   goroutine: PANES, goroutines: PANES, channels: PANES, bt: PANES, print: "a click on a variable shows its values",
   list: "the source marks where each goroutine stands",
   next: MOVES, finish: MOVES, until: MOVES, continue: MOVES,
-  "reverse-next": "press Undo, or choose a step and press Take back", "reverse-continue": "press Undo, or choose a step and press Take back",
-  save: "press Save", load: "press Open…", restart: "press Start", help: "press Help",
+  "reverse-next": BACK, "reverse-continue": BACK,
+  save: "press 'Save as a file' in the menu Share", load: "press 'Open a file…' in the menu Share", restart: "press Restart in the menu beside Run", help: "press 'Keys and help' in the menu ⋯",
 });
 
 // What is said of a line that is no command.
@@ -21,5 +22,5 @@ export function noCommand(line) {
   if (PLACES[word]) return `'${word}' is a word of the shell. Here ${PLACES[word]}.`;
   if (word === "hunt") return "The hunt is a program of its own: 'rewind-hunt FILE'.";
   if (/\d[,_]\d/.test(line)) return "This line is no command: numbers are written in digits alone, as in 'run 1000'.";
-  return "This line is no command: Help lists them.";
+  return "This line is no command: the help lists them.";
 }

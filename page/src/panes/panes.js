@@ -2,7 +2,7 @@
 // line is a button that finds the step behind it.
 
 import { button, inSteps, make } from "../element.js";
-import { holdersOf } from "./holders.js";
+import { calledBy, holdersOf } from "./holders.js";
 import { parseWaiter } from "../engine/protocol.js";
 import { wishesText } from "../waiting/sentences.js";
 import { NIL, Wishes } from "../waiting/waits.js";
@@ -35,29 +35,43 @@ const none = ({ missing }, text) => make("p", { class: "none" }, missing ? UNSHO
  */
 const asked = (title, text, onclick) => button({ class: "asked-value", title, onclick }, text);
 
+// A value; a channel by the variable that holds it, unless it is this one.
+/**
+ * @param {Variable} variable
+ * @param {Map<string, Set<string>>} holders
+ */
+function valueText({ name, value }, holders) {
+  const called = value.includes("/c") ? calledBy(holders, value) : value;
+  return called.startsWith(`${name} (`) ? value : called;
+}
+
 /**
  * @param {Goroutine} goroutine
  * @param {Frame} frame
  * @param {PaneEvents} on
+ * @param {Map<string, Set<string>>} holders
  */
-function frameRows({ name: goroutine }, { name, variables }, on) {
-  const value = (/** @type {Variable} */ it) =>
-    make("dd", {}, asked(`Find the step that gave ${it.name} its value`, `${it.name} = ${it.value}`, () => on.findStep({ variable: [goroutine, it.name] })));
+function frameRows({ name: goroutine }, { name, variables }, on, holders) {
+  const value = (/** @type {Variable} */ it) => {
+    const title = `Find the step that gave ${it.name} its value`;
+    return make("dd", {}, asked(title, `${it.name} = ${valueText(it, holders)}`, () => on.findStep({ variable: [goroutine, it.name] })));
+  };
   return [make("dt", {}, name), ...(variables.length ? variables.map(value) : [make("dd", { class: "none" }, "no variables")])];
 }
 
 /**
  * @param {Goroutine} goroutine
  * @param {PaneEvents} on
+ * @param {Map<string, Set<string>>} holders
  */
-function framesOf(goroutine, on) {
+function framesOf(goroutine, on, holders) {
   const { frames } = goroutine;
   if (!frames.length) return [];
-  const list = make("dl", {}, ...frames.slice(0, FRAMES).flatMap((it) => frameRows(goroutine, it, on)));
+  const list = make("dl", {}, ...frames.slice(0, FRAMES).flatMap((it) => frameRows(goroutine, it, on, holders)));
   const rest = frames.slice(FRAMES);
   if (!rest.length) return [list];
   const more = make("details", {}, make("summary", {}, `${rest.length} frames more`));
-  more.addEventListener("toggle", () => more.childElementCount === 1 && more.append(make("dl", {}, ...rest.flatMap((it) => frameRows(goroutine, it, on)))));
+  more.addEventListener("toggle", () => more.childElementCount === 1 && more.append(make("dl", {}, ...rest.flatMap((it) => frameRows(goroutine, it, on, holders)))));
   return [list, more];
 }
 
@@ -87,17 +101,17 @@ function stepButtons({ name }, clauses, on) {
 
 /**
  * @param {Goroutine} goroutine
- * @param {{clauses: Clause[], isChosen: boolean, isOver: boolean, canStep: boolean, wait: string}} how
+ * @param {{clauses: Clause[], isChosen: boolean, isOver: boolean, canStep: boolean, wait: string, holders: Map<string, Set<string>>}} how
  * @param {PaneEvents} on
  */
-function goroutineCard(goroutine, { clauses, isChosen, isOver, canStep, wait }, on) {
+function goroutineCard(goroutine, { clauses, isChosen, isOver, canStep, wait, holders }, on) {
   const { name, state } = goroutine;
   const choose = button({ "aria-pressed": String(isChosen), onclick: () => on.choose(name) }, name);
   const shown = make("span", { class: state === "waiting" ? "state waiting" : "state" }, stateText(goroutine, isOver));
   const start = name === "g0" ? [] : [asked(`Find the step that started ${name}`, `started by ${name.slice(0, name.lastIndexOf("."))}`, () => on.findStep({ go: name }))];
   const card = make("div", { class: isChosen ? "card chosen" : "card", "data-goroutine": name }, make("div", { class: "top" }, choose, shown, ...start));
   if (wait) card.append(make("p", { class: "wait-text" }, wait));
-  card.append(...framesOf(goroutine, on));
+  card.append(...framesOf(goroutine, on, holders));
   if (state === "ready" && canStep) card.append(stepButtons(goroutine, clauses, on));
   return card;
 }
@@ -122,7 +136,8 @@ export function showGoroutines(host, scene, { chosen, isOver, canStep, program }
   const waits = new Map(program ? new Wishes(program, scene.goroutines, scene.channels).shown(scene.hidden > 0).map((it) => [it.goroutine, waitText(it)]) : []);
   const done = scene.goroutines.filter(({ name, state }) => state === "done" && name !== chosen);
   const cards = scene.goroutines.filter((it) => !done.includes(it));
-  const how = (/** @type {string} */ name) => ({ clauses: scene.clauses.get(name) || [], isChosen: name === chosen, isOver, canStep, wait: waits.get(name) || "" });
+  const holders = holdersOf(scene.goroutines);
+  const how = (/** @type {string} */ name) => ({ holders, clauses: scene.clauses.get(name) || [], isChosen: name === chosen, isOver, canStep, wait: waits.get(name) || "" });
   host.replaceChildren(...cards.map((it) => goroutineCard(it, how(it.name), on)));
   if (done.length) host.append(make("p", { class: "done" }, "done: ", ...done.map(({ name, steps }) => button({ "data-goroutine": name, onclick: () => on.choose(name) }, `${name}, ${inSteps(steps)}`))));
   document.body.classList.toggle("many-cards", cards.length > MANY);
@@ -147,8 +162,10 @@ function listed(title, values) {
  * @param {PaneEvents} on
  */
 function channelCard({ name, capacity, isClosed, items, senders, receivers }, holders, on) {
-  const called = holders.length ? [make("span", { class: "state", title: "the variables that hold it" }, holders.slice(0, HOLDERS).join(", "))] : [];
-  const top = make("div", { class: "top" }, make("strong", {}, name), ...called, make("span", { class: "state" }, `${isClosed ? "closed" : "open"}, room for ${capacity}`));
+  const core = holders.length ? [make("span", { class: "core", title: "its name in commands" }, `(${name})`)] : [];
+  const others = holders.length > 1 ? [make("span", { class: "state", title: "other variables that hold it" }, `also ${holders.slice(1, HOLDERS).join(", ")}`)] : [];
+  const state = make("span", { class: "state" }, `${isClosed ? "closed" : "open"}, room for ${capacity}`);
+  const top = make("div", { class: "top" }, make("strong", {}, holders[0] || name), ...core, ...others, state);
   const sending = senders.filter((it) => !parseWaiter(it).clause).length; // their sends come after those of the items
   const item = (/** @type {string} */ it, /** @type {number} */ at) => asked("Find the step that sent it", it, () => on.findStep({ item: [name, items.length - at + sending] }));
   const waiter = (/** @type {string} */ it) => asked("Find the step in which it began to wait", it, () => on.findStep({ waiter: parseWaiter(it).goroutine }));

@@ -1,57 +1,60 @@
-// Panes that can be made wider or narrower by dragging the line between them or by the arrow keys, and that fold.
+// The width of the source and the height of the panel, which change by dragging the line beside them or by the arrow keys.
 
 import { keepSettings, settings } from "../control/keeping.js";
 import { find } from "../element.js";
 
 const STEP = 24; // pixels that an arrow key moves
-const LEAST = 160;
+const LEAST = 120;
+
+/** @typedef {{name: string, pane: string, isTall: boolean, keys: {[key: string]: number}}} Split */
+
+/** @type {Split[]} */
+const SPLITS = [
+  { name: "left", pane: "left", isTall: false, keys: { ArrowLeft: -STEP, ArrowRight: STEP } },
+  { name: "panel", pane: "panel", isTall: true, keys: { ArrowUp: STEP, ArrowDown: -STEP } },
+];
 
 /**
- * @param {string} name
- * @param {number} width
+ * @param {Split} split
+ * @param {number} size
  * @param {import("../control/page.js").Page} page
  */
-function setWidth(name, width, page) {
-  const most = Math.max(LEAST, window.innerWidth * 0.6);
-  const wide = Math.round(Math.max(LEAST, Math.min(most, width)));
-  document.documentElement.style.setProperty(`--${name}`, `${wide}px`);
-  find(`${name}-split`).setAttribute("aria-valuenow", String(wide));
-  keepSettings({ [name]: wide });
+function setSize({ name, isTall }, size, page) {
+  const most = Math.max(LEAST, (isTall ? window.innerHeight : window.innerWidth) * 0.6);
+  const set = Math.round(Math.max(LEAST, Math.min(most, size)));
+  document.documentElement.style.setProperty(`--${name}-size`, `${set}px`);
+  find(`${name}-split`).setAttribute("aria-valuenow", String(set));
+  keepSettings({ [name]: set });
   page.views.editor.refresh();
 }
 
 /**
- * @param {string} name
- * @param {string} pane
- * @param {number} way
+ * @param {Split} split
  * @param {import("../control/page.js").Page} page
  */
-function makeSplitter(name, pane, way, page) {
+function makeSplitter(split, page) {
+  const { name, pane, isTall, keys } = split;
   const line = find(`${name}-split`);
-  const width = () => find(pane).getBoundingClientRect().width;
+  const size = () => find(pane).getBoundingClientRect()[isTall ? "height" : "width"];
   line.addEventListener("pointerdown", (event) => {
     line.setPointerCapture(event.pointerId);
-    const [from, wide] = [event.clientX, width()];
-    line.onpointermove = (moved) => setWidth(name, wide + way * (moved.clientX - from), page);
+    const [from, before] = [isTall ? -event.clientY : event.clientX, size()];
+    line.onpointermove = (moved) => setSize(split, before + (isTall ? -moved.clientY : moved.clientX) - from, page);
     line.onpointerup = () => (line.onpointermove = null);
   });
   line.addEventListener("keydown", (event) => {
-    const by = { ArrowLeft: -STEP, ArrowRight: STEP }[event.key];
+    const by = keys[event.key];
     if (!by) return;
     event.preventDefault();
-    setWidth(name, width() + way * by, page);
+    setSize(split, size() + by, page);
   });
 }
 
 /** @param {import("../control/page.js").Page} page */
 export function makePanes(page) {
   const kept = settings();
-  for (const name of ["left", "right"]) if (typeof kept[name] === "number") setWidth(name, kept[name], page);
-  makeSplitter("left", "source-pane", 1, page);
-  makeSplitter("right", "panes", -1, page);
-  for (const details of document.querySelectorAll("details.pane")) {
-    const it = /** @type {HTMLDetailsElement} */ (details);
-    if (kept[`folded-${it.id}`]) it.open = false;
-    it.addEventListener("toggle", () => keepSettings({ [`folded-${it.id}`]: !it.open }));
+  for (const split of SPLITS) {
+    if (typeof kept[split.name] === "number") setSize(split, kept[split.name], page);
+    makeSplitter(split, page);
   }
 }

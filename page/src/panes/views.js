@@ -4,37 +4,18 @@ import { toggleBreak } from "../control/breaks.js";
 import { describeStep, showChosen } from "./chosen.js";
 import { Editor } from "./editor.js";
 import { Filter } from "./filter.js";
+import { past, showMatter, showMoment, status } from "./matter.js";
+import { showGhost } from "../picture/ghost.js";
+import { Tabs, Views } from "./tabs.js";
 import { NOTHING } from "../session/scene.js";
 import { Overview } from "../picture/overview.js";
 import { PictureView } from "../picture/view.js";
 import { Stories } from "../lessons/stories.js";
 import { Transcript } from "./transcript.js";
-import { enable, field, find, inSteps } from "../element.js";
+import { enable, field, find } from "../element.js";
 import { showChannels, showConsole, showGoroutines } from "./panes.js";
 
 /** @typedef {import("../control/page.js").Page} Page */
-
-// What the last command came to, and how far a long run is.
-const status = {
-  /**
-   * @param {string} text
-   * @param {string} tone
-   */
-  say(text, tone = "") {
-    find("status").textContent = text;
-    find("status").className = tone;
-  },
-  // Of no steps at all, there is no run.
-  /**
-   * @param {number} taken
-   * @param {number} count
-   */
-  progress(taken, count) {
-    find("stop").hidden = find("progress").hidden = !count;
-    /** @type {HTMLProgressElement} */ (find("progress")).value = count ? taken / count : 0;
-    find("taken").textContent = count ? `${taken.toLocaleString("en")} of at most ${inSteps(count)}` : "";
-  },
-};
 
 const refusal = {
   clear() {
@@ -54,71 +35,49 @@ const refusal = {
 const controls = {
   /** @param {Page} page */
   show(page, isStarting = false) {
-    const { session, views } = page;
+    const { session } = page;
     const isRunning = isStarting || Boolean(session?.isRunning);
     const lives = Boolean(session) && !session?.gone && !isRunning;
     const goesOn = lives && !session?.log.isOver;
-    for (const id of ["run", "step", "over", "alone", "to-line"]) enable(id, goesOn);
+    for (const id of ["run", "step", "over", "alone", "to-line", "run-on", "run-it"]) enable(id, goesOn);
+    for (const id of ["step-of", "alone-of"]) find(id).textContent = page.chosen;
     field("count").disabled = !goesOn;
     enable("undo", lives && Boolean(session?.log.length));
     enable("redo", lives && Boolean(session?.undone));
-    const redo = /** @type {ChildNode} */ (find("redo").firstChild);
-    redo.textContent = lives && session?.undone ? `Redo ${session.undone}` : "Redo";
-    const { stories } = views;
-    const isOfStory = stories.isOf(session?.source || "");
-    find("next").hidden = !stories.commands.length || !isOfStory;
-    enable("next", lives && stories.next !== undefined);
-    find("next").title = stories.next ? `The story goes on with: ${stories.next.slice(0, 80)}` : "The story gives no more commands";
-    const isText = stories.isOf(views.editor.text);
-    find("about-story").hidden = !isText;
-    stories.menu.value = isText ? stories.name : "";
+    find("redo").textContent = lives && session?.undone ? `Redo ${session.undone.toLocaleString("en")}` : "Redo";
+    for (const id of ["back", "bar-back"]) enable(id, lives && Boolean(page.pointing.about && page.pointing.pinned) && !page.past.isOn);
     for (const id of ["save", "save-png"]) enable(id, Boolean(session?.log.length));
-    find("stale").hidden = !session || session.source === views.editor.text;
-    find("gone").hidden = !session?.gone;
+    showStart(page);
+    showStory(page, lives);
+    showGhost(page);
+    find("gone").textContent = session?.gone ? "The session is gone. Its steps can be taken again." : "";
     find("picture-note").textContent = page.annotating.missing;
-    controls.past(page);
-  },
-  /** @param {Page} page */
-  past({ session, past }) {
-    const slider = field("moment");
-    slider.max = String(session?.log.length || 0);
-    slider.disabled = !session?.log.length || Boolean(session.gone);
-    if (!past.isOn) slider.value = slider.max;
-    slider.setAttribute("aria-valuetext", past.isOn ? `after step ${past.row} of ${slider.max}` : "now");
+    showMoment(page);
   },
 };
 
-// How the program stands where it goes on no more.
-const state = {
-  /** @param {Page} page */
-  show({ session, words, standing, note, past }) {
-    const found = session && !past.isOn ? words.state(session, standing, note) : null;
-    find("state").hidden = !found;
-    find("state").className = found?.tone || "";
-    find("state").textContent = found?.text || "";
-    const lines = (found && standing?.lines) || [];
-    find("why").hidden = lines.length < 2;
-    find("why-lines").textContent = lines.join("\n");
-  },
-};
+/**
+ * @param {Page} page
+ * @param {boolean} lives
+ */
+function showStory({ session, views: { stories, editor } }, lives) {
+  const isOfStory = stories.isOf(session?.source || "");
+  find("next").hidden = !stories.commands.length || !isOfStory;
+  enable("next", lives && stories.next !== undefined);
+  find("next").title = stories.next ? `The story goes on with: ${stories.next.slice(0, 80)} (n)` : "The story gives no more commands";
+  const isText = stories.isOf(editor.text);
+  find("about-story").hidden = !isText;
+  find("told").classList.toggle("empty", !isText);
+  stories.menu.value = isText ? stories.name : "";
+}
 
-const past = {
-  /** @param {Page} page */
-  show(page) {
-    const { past: it, session } = page;
-    find("then").hidden = !it.isOn;
-    document.body.classList.toggle("is-past", it.isOn);
-    if (it.isOn && session && it.row <= session.log.length) {
-      const after = it.row ? `after step ${it.row.toLocaleString("en")}, ${session.log.id(it.row - 1)},` : "before the first step";
-      const of = `the state ${after} of ${inSteps(session.log.length)}`;
-      const onTheWay = it.isMissed ? `This page cannot find ${of}.` : `On the way to ${of}: now at step ${session.follower.at.toLocaleString("en")}.`;
-      find("then-text").textContent = it.found === it.row ? `This is ${of}. Nothing is changed.` : onTheWay;
-    }
-    if (it.isOn) field("moment").value = String(it.row);
-    controls.past(page);
-    state.show(page);
-  },
-};
+// The button that checks the source is there where the text is another one than that of the session.
+/** @param {Page} page */
+function showStart({ session, views }) {
+  const isStale = Boolean(session) && session?.source !== views.editor.text;
+  find("stale").hidden = !isStale;
+  find("start-bar").classList.toggle("wanted", isStale || !session);
+}
 
 // The views; `later()` gives the page, which is made after them.
 /**
@@ -136,7 +95,7 @@ export function makeViews(given, later, words, on, stepsOf) {
     move: (/** @type {string} */ id, /** @type {number} */ row) => void later().pointing.move(id, row),
     scrolled: () => later().annotating.scrolled(),
   };
-  const describe = (/** @type {Step} */ step) => describeStep(step, later().note(step.id), later().session?.log.length || 0);
+  const describe = (/** @type {Step} */ step) => describeStep(step, later().note(step.id), later().session?.log.length || 0, (kind) => words.kind(kind));
   const picture = new PictureView(find("picture"), pointing, describe);
   const editorEvents = {
     open: () => void later().open(),
@@ -144,8 +103,9 @@ export function makeViews(given, later, words, on, stepsOf) {
     toggleBreak: (/** @type {number} */ line) => void toggleBreak(later(), line),
     stepsOf,
   };
+  const editor = new Editor(find("editor"), editorEvents);
   return {
-    editor: new Editor(find("editor"), editorEvents),
+    editor,
     picture,
     overview: new Overview(/** @type {HTMLCanvasElement} */ (find("overview")), picture),
     transcript: new Transcript(find("transcript"), (code) => words.meaning(code)),
@@ -155,7 +115,9 @@ export function makeViews(given, later, words, on, stepsOf) {
       channels: (/** @type {Scene} */ scene) => showChannels(find("channels"), scene, on),
       console: (/** @type {Scene} */ scene) => showConsole(find("console"), scene, on),
     },
-    status, refusal, controls, state, past,
+    tabs: new Tabs(find("tabs")),
+    windows: new Views(find("views"), () => editor.refresh()),
+    status, refusal, controls, past, state: { show: showMatter },
     columns: new Filter(find("columns-list"), picture, later),
     chosen: { show: showChosen },
     nothing: NOTHING,

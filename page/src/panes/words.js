@@ -6,6 +6,7 @@ import { listedSteps, wordsOf } from "../engine/protocol.js";
 import { cycleText, endedText, notDone, wishesText } from "../waiting/sentences.js";
 import { Wishes } from "../waiting/waits.js";
 
+const LONGEST_CYCLE = 4; // goroutines of a cycle that are named in a short sentence
 const NAMED = 6; // goroutines that are named in a sentence; of more, how many more
 
 const ENDS_OF_RUNS = /** @type {{[reason: string]: string}} */ ({
@@ -43,24 +44,34 @@ export class Words {
     this.given = given;
   }
 
-  // What a code means, or nothing.
+  // What a code means, behind the code, or nothing.
   /** @param {string} code */
   meaning(code) {
     const said = this.given.codes[code];
     return said ? `${code}: ${said}` : "";
   }
 
-  /** @param {string} kind */
-  kind(kind) {
-    const said = this.given.kinds[kind.split(" ")[0]] || "";
-    return said ? `${kind} (${said.startsWith("a ") ? "" : "it "}${said})` : kind;
+  // A refusal in words.
+  /** @param {string} code */
+  refusal(code) {
+    const said = this.given.codes[code] || "";
+    return said && `${said[0].toUpperCase()}${said.slice(1)}.`;
   }
 
-  // What a fault is, as `SendOnClosed`: its name and its meaning.
+  // What a step of this kind did, in words.
+  /** @param {string} kind */
+  kind(kind) {
+    const [first, rest] = kind.split(" ");
+    if (first === "pure") return "own statement";
+    if (first === "pick") return `took case ${rest} of its select`;
+    if (first === "fault") return `panic: ${this.fault(rest)}`;
+    return this.given.kinds[first]?.split(":")[0] || kind;
+  }
+
+  // What a fault means, as `SendOnClosed`. What else has this name is left out.
   /** @param {string} fault */
   fault(fault) {
-    const said = this.given.faults[fault];
-    return said ? `${said} (${fault})` : fault;
+    return (this.given.faults[fault] || fault).replace(/, also .*/, "");
   }
 
   // What a reply says.
@@ -72,8 +83,8 @@ export class Words {
     const [word] = wordsOf(line);
     const count = listedSteps(reply).length;
     if (reply.words[1] === "B4") return `Not possible: ${reply.words[3]} depends on ${reply.words[2]}, so it cannot come before it.`;
-    if (!reply.isOk) return this.meaning(reply.words[1]) || noCommand(line);
-    if (word === "step") return `${reply.words[1]}: ${this.kind(reply.words.slice(2).join(" "))}`;
+    if (!reply.isOk) return this.refusal(reply.words[1]) || noCommand(line);
+    if (word === "step") return `${reply.words[1]}: ${this.kind(reply.words.slice(2).join(" "))}.`;
     if (word === "undo") return `${reply.words[1]} is taken back.`;
     if (word === "back") return `${inSteps(count)} taken back: ${reply.words[2]}${count === 1 ? "" : " and what depended on it"}.`;
     if (word === "redo") return `${inSteps(count)} taken again.`;
@@ -92,12 +103,12 @@ export class Words {
    */
   state({ log, scene, program }, standing, note) {
     const end = log.end;
-    if (end?.kind.startsWith("fault")) return { tone: "bad", text: this.faultText(end, note(end.id)) };
+    if (end?.kind.startsWith("fault")) return { tone: "stuck", text: `${this.faultText(end, note(end.id))}${causeText(note(end.id))}` };
     if (end) return this.ended(scene, standing);
     if (!scene.isStuck || !log.length) return null;
     const waits = new Wishes(program, scene.goroutines, scene.channels).shown(scene.hidden > 0);
     const texts = waits.map(({ goroutine, line, wishes }) => `${goroutine} waits ${wishes.length ? `to ${wishesText({ wishes })}` : "for ever"} at line ${line}`);
-    return { tone: "bad", text: `Deadlock: no goroutine is ready. ${[`${listed(texts, "; ")}.`, ...cycleText(standing?.cycle || [])].join(" ")}` };
+    return { tone: "stuck", text: `Deadlock: no goroutine is ready. ${[`${listed(texts, "; ")}.`, ...cycleText(standing?.cycle || [])].join(" ")}` };
   }
 
   /**
@@ -108,24 +119,45 @@ export class Words {
     if (scene.missing) return { tone: "good", text: "The program has ended." };
     const count = scene.goroutines.filter(({ name, state }) => state !== "done" && name !== "g0").length;
     if (!standing && scene.isPartial) return { tone: "good", text: `The program has ended. Of the first ${scene.goroutines.length} goroutines, ${notDone(count)}; the others are not shown.` };
-    if (!standing) return { tone: count ? "warn" : "good", text: count ? `The program has ended. ${notDone(count)} when main returned.` : endedText(0, 0) };
+    if (!standing) return { tone: "good", text: count ? `The program has ended. ${notDone(count)} when main returned.` : endedText(0, 0) };
     const { fates } = standing;
     const leaks = fates.filter(({ ending }) => ending === "wait");
     const texts = fates.map(({ goroutine, ending, line }) => `${goroutine} ${FATES[ending]}${line ? ` at line ${line}` : ""}`);
-    return { tone: leaks.length ? "warn" : "good", text: `${endedText(fates.length, leaks.length)}${fates.length ? ` ${listed(texts, ", ")}.` : ""}` };
+    return { tone: leaks.length ? "stuck" : "good", text: `${endedText(fates.length, leaks.length)}${fates.length ? ` ${listed(texts, ", ")}.` : ""}` };
   }
 
-  // Of the meaning, what else has this name is left out.
   /**
    * @param {Step} step
    * @param {Note | undefined} note
    */
   faultText({ id, kind }, note) {
     const at = note?.line ? ` at line ${note.line}` : "";
-    const cause = note?.edges?.length ? ` It depends on ${note.edges[0].from}.` : "";
-    return `Panic in ${id}${at}: ${this.fault(kind.slice("fault ".length)).replace(/, also [^(]*(?= \()/, "")}.${cause}`;
+    return `Panic in ${id}${at}: ${this.fault(kind.slice("fault ".length))}.`;
+  }
+
+  // The same as `state` in one short sentence.
+  /**
+   * @param {import("../session/session.js").Session} session
+   * @param {import("../waiting/standing.js").Standing | null} standing
+   * @param {(id: string) => Note | undefined} note
+   */
+  headline(session, standing, note) {
+    const { log, scene } = session;
+    if (log.end?.kind.startsWith("fault")) return this.faultText(log.end, note(log.end.id));
+    const { text } = this.state(session, standing, note) || { text: "" };
+    if (log.end) return standing ? endedText(standing.fates.length, standing.fates.filter(({ ending }) => ending === "wait").length) : text;
+    const cycle = standing?.cycle || [];
+    if (cycle.length === 2) return `Deadlock: ${cycle.join(" and ")} wait for each other.`;
+    if (cycle.length > LONGEST_CYCLE) return `Deadlock: ${cycle.length} goroutines wait for each other in a cycle.`;
+    if (cycle.length) return `Deadlock: ${cycle[0]} waits for ${[...cycle.slice(1), cycle[0]].join(", which waits for ")}.`;
+    const count = scene.goroutines.filter(({ state }) => state === "waiting").length;
+    return count === 1 ? text.replace("no goroutine is ready. ", "") : `Deadlock: no goroutine is ready${count && !scene.isPartial ? `, and ${count} wait` : ""}.`;
   }
 }
+
+// The step that a panic depends on.
+/** @param {Note | undefined} note */
+const causeText = (note) => (note?.edges?.length ? ` It depends on ${note.edges[0].from}.` : "");
 
 /**
  * @param {string[]} texts

@@ -1,8 +1,8 @@
 // The paths of edges: straight where nothing is in the way, else bent so that none passes through the mark of a third goroutine.
 
 const CLEAR = 8; // distance that an edge keeps from the marks of others
-const BENDS = [0, 14, -14, 28, -28, 44, -44, 64, -64, 90, -90];
-const BESIDE = 15; // from a column to an edge that goes along it
+const BENDS = [0, 8, -8, 14, -14, 20, -20, 28, -28, 44, -44, 64, -64, 90, -90];
+const BESIDE = 13; // from a lane to an edge that goes along it
 
 /** @typedef {[number, number]} Point */
 
@@ -34,19 +34,20 @@ function bent(from, to, bend) {
   return [x - ((to[1] - from[1]) / length) * bend * 2, y + ((to[0] - from[0]) / length) * bend * 2];
 }
 
-// Whether a curve keeps clear of marks; `markNear(y)` gives the marks of the rows around a height.
+// Whether a curve keeps clear of marks, and between two sides; `markNear(y)` gives the marks of the rows around a height.
 /**
  * @param {Point[]} curve
  * @param {(y: number) => Point[]} markNear
+ * @param {[number, number]} sides
  */
-function isClear(curve, markNear) {
+function isClear(curve, markNear, [left, right]) {
   const [from, , to] = curve;
   const count = Math.min(400, Math.max(24, Math.ceil(Math.abs(to[1] - from[1]) / 6)));
   for (let at = 1; at < count; at++) {
     const [x, y] = onCurve(curve, at / count);
-    const isNear = (/** @type {Point} */ [left, top]) =>
-      Math.hypot(left - x, top - y) < CLEAR && !(left === from[0] && top === from[1]) && !(left === to[0] && top === to[1]);
-    if (markNear(y).some(isNear)) return false;
+    const isNear = (/** @type {Point} */ [beside, top]) =>
+      Math.hypot(beside - x, top - y) < CLEAR && !(beside === from[0] && top === from[1]) && !(beside === to[0] && top === to[1]);
+    if (x < left || x > right || markNear(y).some(isNear)) return false;
   }
   return true;
 }
@@ -80,15 +81,16 @@ function around(from, to, rowHeight) {
   return `M${points[0]}Q${points[1]} ${shown([from[0] - side * 12, border])}L${points[2]}L${points[3]}L${points[4]}`;
 }
 
-// The path of an edge between two marks.
+// The path of an edge between two marks, which stays between two sides.
 /**
  * @param {Point} from
  * @param {Point} to
  * @param {(y: number) => Point[]} markNear
  * @param {number} rowHeight
+ * @param {[number, number]} [sides]
  */
-export function edgePath(from, to, markNear, rowHeight) {
-  const bend = BENDS.find((it) => isClear([from, bent(from, to, it), to], markNear));
+export function edgePath(from, to, markNear, rowHeight, sides = [-Infinity, Infinity]) {
+  const bend = BENDS.find((it) => isClear([from, bent(from, to, it), to], markNear, sides));
   if (bend === undefined) return around(from, to, rowHeight);
   const middle = bent(from, to, bend);
   const [start, control, end] = shown(cut(from, middle, 6), middle, cut(to, middle, 7));

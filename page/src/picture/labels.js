@@ -1,4 +1,4 @@
-// The words of the picture's labels, cut to a length that leaves the picture readable.
+// The words of the picture, cut to the length of their column.
 
 /**
  * @param {string} text

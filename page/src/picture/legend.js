@@ -4,18 +4,19 @@ const MARK_NAMES = [
   ["", '<circle class="mark" cx="8" cy="8" r="3.5"/>', "own statement"],
   ["", '<circle class="mark" cx="8" cy="8" r="5.5"/>', "communication"],
   ["wait", '<rect class="mark" x="3" y="3" width="10" height="10"/>', "begins to wait"],
+  ["wait stuck", '<rect class="mark" x="3" y="3" width="10" height="10"/>', "is stuck"],
   ["", '<path class="mark" d="M8 2l6 6l-6 6l-6 -6z"/>', "starts, makes"],
   ["", '<path class="mark" d="M2 4h12v8h-12z"/>', "closes"],
   ["fault", '<path class="mark" d="M3 3l10 10m0 -10l-10 10"/>', "panic"],
   ["", '<line class="asleep" x1="8" y1="0" x2="8" y2="16"/>', "waits"],
 ];
 const EDGE_NAMES = [["message", "message"], ["start", "start"], ["close", "close"], ["order", "order of waiting"]];
-const SIDE_NAMES = [["cause", "↑", "cause"], ["consequence", "↓", "consequence"]];
+const SIDE_NAMES = [["cause", "↑", "because of it"], ["consequence", "↓", "goes with it"]];
 const ROWS = 3;
 export const LEGEND_HEIGHT = 6 + 24 * ROWS;
 
 /** @param {string} kind */
-const arrow = (kind) => `<path class="edge ${kind}" marker-end="url(#tip-${kind})" d="M1 8L22 8"/>`;
+const arrow = (kind) => `<path class="edge ${kind}" marker-end="url(#tip-plain)" d="M1 8L22 8"/>`;
 /** @param {string[]} side */
 const washed = ([, sign]) => `<rect class="wash" width="16" height="16"/><text class="side" x="8" y="12">${sign}</text>`;
 
@@ -27,10 +28,9 @@ const ENTRIES = [
 ];
 
 export function legend() {
-  const shown = ENTRIES.map(
+  return ENTRIES.map(
     ({ name, drawing, text, width }) => `<span><svg class="picture" width="${width}" height="16"><g class="${name}">${drawing}</g></svg>${text}</span>`,
-  );
-  return [...shown, "<span>#5 its number</span><span>:6 its line</span>"].join("");
+  ).join("");
 }
 
 // The same within an SVG, in rows.

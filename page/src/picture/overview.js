@@ -34,14 +34,15 @@ export class Overview {
   drawNow() {
     const { canvas, picture } = this;
     const { rows, layout } = picture;
-    canvas.hidden = !rows || picture.host.scrollHeight <= picture.host.clientHeight + 4;
-    if (canvas.hidden || !rows || !layout) return;
+    const isWanted = Boolean(rows) && picture.host.scrollHeight > picture.host.clientHeight + 4;
+    canvas.style.visibility = isWanted ? "" : "hidden";
+    if (!isWanted || !rows || !layout) return;
     const { clientWidth: width, clientHeight: height } = canvas;
     const { scrollTop, clientHeight, scrollHeight } = picture.host;
     const style = getComputedStyle(canvas);
     const colour = (/** @type {string} */ name) => style.getPropertyValue(`--${name}`);
-    const colours = { "": colour("order"), cause: colour("cause"), consequence: colour("consequence"), end: colour("danger"), pointed: colour("chosen") };
-    const accent = colour("accent");
+    const colours = { "": colour("edge"), cause: colour("cause"), consequence: colour("consequence"), end: colour("text"), pointed: colour("text") };
+    const frame = colour("text");
     Object.assign(canvas, { width, height }); // which clears it
     const context = /** @type {CanvasRenderingContext2D} */ (canvas.getContext("2d"));
     const columns = new Map(layout.names.map((name, at) => [name, at]));
@@ -54,7 +55,7 @@ export class Overview {
       const tall = Math.max(side ? 2 : 1, height / rows.length);
       context.fillRect((columns.get(step.goroutine) || 0) * each, (at / rows.length) * height, Math.max(2, each - 1), tall);
     }
-    context.strokeStyle = accent;
+    context.strokeStyle = frame;
     context.lineWidth = 2;
     context.strokeRect(1, (scrollTop / scrollHeight) * height, width - 2, Math.max(6, (clientHeight / scrollHeight) * height));
   }

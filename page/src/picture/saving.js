@@ -2,6 +2,7 @@
 
 import { ALL_EDGES } from "../control/annotating.js";
 import { Rows } from "./rows.js";
+import { shownOf } from "./shown.js";
 import { savedPicture } from "./saved.js";
 
 const PARTS = [[20000, 800], [Infinity, 60]]; // up to so many steps of a longer log, how many above and below the view are saved
@@ -9,9 +10,9 @@ const PARTS = [[20000, 800], [Infinity, 60]]; // up to so many steps of a longer
 // The SVG text of the picture.
 /**
  * @param {import("../control/page.js").Page} page
- * @param {{title?: string, labels?: string, hasLegend?: boolean}} how
+ * @param {{title?: string, hasLegend?: boolean}} how
  */
-export async function savePicture(page, { title = "", labels = "", hasLegend = true } = {}) {
+export async function savePicture(page, { title = "", hasLegend = true } = {}) {
   const { session, views, annotating } = page;
   if (!session) return "";
   const { log, follower } = session;
@@ -26,10 +27,10 @@ export async function savePicture(page, { title = "", labels = "", hasLegend = t
   const isSplit = !isWhole || Boolean(follower.lost);
   const rows = new Rows(log, { isFolded: isWhole && picture.isFolded, hidden: isWhole ? picture.hidden : new Set() });
   const edges = log.steps(from, to).flatMap(({ id }) => (page.note(id)?.edges || []).filter((edge) => log.row(edge.from) >= from));
-  const shown = { log, rows, functions: annotating.functions(), notes: page.note, labels: labels || picture.labels };
+  const shown = { ...shownOf(page), log, rows };
   const name = views.stories.name.replaceAll("_", " ");
   return savedPicture(shown, edges, picture.view, {
-    title: title || `Steps of ${name}, a column for each goroutine`, rowHeight: picture.rowHeight, from, to: isWhole ? rows.length : to, hasLegend,
+    title: title || `Steps of ${name}, a lane for each goroutine`, rowHeight: picture.rowHeight, from, to: isWhole ? rows.length : to, hasLegend,
     part: partText(isSplit, from, to, log.length, follower.lost),
   });
 }

@@ -1,39 +1,23 @@
-// The space-time picture in the page: only the rows in view are drawn. It tells of pointing, choosing and dragging.
+// The space-time picture in the page: only the rows in view are drawn. It tells of pointing, choosing and dragging. Lanes scroll beside
+// the text, which stays where it is.
 
 import { Hand } from "./hand.js";
 import { worksOn } from "../session/operations.js";
-import { headOf, labelWidth, layOut } from "./layout.js";
-import { DEFINITIONS, NOTHING_POINTED, cycleHeight, cycleWidth, drawNames, drawRows } from "./picture.js";
-import { goroutineOf } from "../engine/protocol.js";
+import { headOf, isStacked, layOut } from "./layout.js";
+import { DEFINITIONS, NOTHING_POINTED } from "./picture.js";
+import { cycleHeight, drawLanes, drawNames } from "./lanes.js";
+import { drawLines } from "./lines.js";
+import { makeSheet, change } from "./sheet.js";
 import { Rows } from "./rows.js";
+import { besideOf } from "./beside.js";
 
-const SIZES = [[14, 10], [18, 11], [22, 12], [28, 14], [36, 18], [44, 22]]; // heights of rows, and of their letters
-const MEASURED = 300; // rows: of more, the labels in view are measured
+const SIZES = [[14, 10], [18, 12], [22, 13], [28, 15], [36, 20], [44, 24]]; // heights of rows, and of their letters
+const STACKED = 1.7; // times as tall is a row whose columns stand below each other
 const AROUND = 8; // rows drawn beyond those in view
 const TALLEST = 15000000; // pixels: browsers show no taller element
-const BUTTON = 24; // its least height
-const NAMESPACE = "http://www.w3.org/2000/svg";
-
-/**
- * @param {string} className
- * @param {Element} parent
- */
-function svg(className, parent) {
-  const made = document.createElementNS(NAMESPACE, "svg");
-  made.setAttribute("class", className);
-  made.setAttribute("role", "none");
-  parent.append(made);
-  return made;
-}
-
-// An attribute that is set anew is laid out anew, with the value of before too.
-/**
- * @param {Element} element
- * @param {{[name: string]: number}} values
- */
-function change(element, values) {
-  for (const [name, value] of Object.entries(values)) if (element.getAttribute(name) !== String(value)) element.setAttribute(name, String(value));
-}
+const END = 6; // pixels below the last row
+const LEAST = 120; // a narrower picture is not shown
+const UNSEEN = 800; // the width for which a picture is laid out that was not shown yet
 
 /**
  * @typedef {object} PictureEvents
@@ -44,11 +28,13 @@ function change(element, values) {
  * @property {() => void} scrolled
  */
 
+/** @typedef {Omit<import("./layout.js").Shown, "rows">} ShownLog */
+
 export class PictureView {
   /**
    * @param {HTMLElement} host
    * @param {PictureEvents} on
-   * @param {(step: Step, row: number) => string} describe
+   * @param {(step: Step) => string} describe
    */
   constructor(host, on, describe) {
     this.host = host;
@@ -62,31 +48,22 @@ export class PictureView {
     /** @type {Set<string>} */
     this.hidden = new Set();
     this.channel = ""; // the one whose operations alone are shown, or "" for all
-    this.labels = "statement";
     this.hasOrder = true; // whether arrows of the order of waiting are drawn
-    /** @type {{log: import("../session/log.js").Log, functions: Map<string, string>, notes: (id: string) => Note | undefined} | null} */
+    /** @type {ShownLog | null} */
     this.shown = null;
+    /** @type {import("./layout.js").Place | null} */
+    this.layout = null;
     this.frame = 0;
-    this.isToMeasure = false;
     this.version = -1; // of the log that is laid out
     this.rowsVersion = -1; // and of the one whose rows these are
     /** @type {Rows | null} */
     this.rowsNow = null;
     this.length = 0;
+    this.isStacked = false;
     this.room = 0; // its height when that was last seen
     this.wasAtEnd = true;
-    this.head = svg("picture names", host);
-    this.head.setAttribute("aria-hidden", "true");
-    this.body = svg("picture body", host);
-    this.body.innerHTML = `${DEFINITIONS}<g class="drawn" role="none"></g><g class="above" aria-hidden="true"></g>`;
-    this.drawn = /** @type {Element} */ (this.body.querySelector(".drawn"));
-    this.above = /** @type {Element} */ (this.body.querySelector(".above"));
+    this.sheet = makeSheet(host, DEFINITIONS);
     this.hand = new Hand(this);
-    this.listen();
-  }
-
-  listen() {
-    const { host } = this;
     host.addEventListener("scroll", () => {
       this.wasAtEnd = this.isAtEnd;
       this.drawSoon();
@@ -120,18 +97,18 @@ export class PictureView {
     return this.rowsNow;
   }
 
-  /** @param {NonNullable<PictureView["shown"]>} shown */
+  /** @param {ShownLog} shown */
   renewRows(shown) {
     this.rowsVersion = shown.log.version;
     this.rowsNow = this.rowsOf(shown);
   }
 
   get rowHeight() {
-    return SIZES[this.size][0];
+    return Math.round(SIZES[this.size][0] * (this.isStacked ? STACKED : 1));
   }
 
   get letter() {
-    return Math.round(SIZES[this.size][1] * 0.605 * 10) / 10;
+    return Math.round(SIZES[this.size][1] * 0.605 * 100) / 100;
   }
 
   get headHeight() {
@@ -149,23 +126,21 @@ export class PictureView {
 
   // The largest size at which all rows are in view, or else the smallest.
   fit() {
-    const room = this.host.clientHeight - this.headHeight - 6;
+    const room = this.host.clientHeight - this.headHeight - END;
     const fitting = SIZES.map(([height]) => height * (this.rows?.length || 1) <= room).lastIndexOf(true);
     this.zoom(Math.max(0, fitting) - this.size);
   }
 
-  // Shows a log; `notes` gives a step's note or nothing.
+  // Shows a log, and the edges that are found of it.
   /**
-   * @param {import("../session/log.js").Log} log
-   * @param {Map<string, string>} functions
-   * @param {(id: string) => Note | undefined} notes
+   * @param {ShownLog} shown
    * @param {Edge[]} edges
    */
-  show(log, functions, notes, edges) {
+  show(shown, edges) {
     const atEnd = this.isAtEnd;
-    const grown = log.length > this.length;
-    this.length = log.length;
-    this.shown = { log, functions, notes };
+    const grown = shown.log.length > this.length;
+    this.length = shown.log.length;
+    this.shown = shown;
     this.edges = edges;
     this.place();
     if (atEnd && grown) this.host.scrollTop = this.host.scrollHeight;
@@ -188,7 +163,7 @@ export class PictureView {
   }
 
   // The rows of a log: what printed and what is pointed at is not folded.
-  /** @param {{log: import("../session/log.js").Log, notes: (id: string) => Note | undefined}} shown */
+  /** @param {ShownLog} shown */
   rowsOf({ log, notes }) {
     const isKept = (/** @type {number} */ row) => {
       const id = log.id(row);
@@ -198,28 +173,30 @@ export class PictureView {
     return new Rows(log, { isFolded: this.isFolded, hidden: this.hidden, isKept, isShown });
   }
 
-  // Lays out the rows around the view; of a log that has changed, these are other ones.
+  // Lays out lanes and lines in the room that there is.
   measure() {
     if (!this.shown) return;
     this.renewRows(this.shown);
     const rows = /** @type {Rows} */ (this.rowsNow);
     this.version = this.shown.log.version;
-    const [from, to] = this.inView();
-    const { clientWidth: room } = this.host;
-    const how = { rowHeight: this.rowHeight, letter: this.letter, room, first: from, last: rows.length > MEASURED ? to : Infinity, top: this.top };
-    this.layout = layOut({ ...this.shown, rows, labels: this.labels }, how);
-    const height = this.layout.y(rows.length) + 6 + cycleHeight(this.layout, this.view.cycle);
-    const width = Math.max(this.layout.width, room, cycleWidth(this.layout, this.view.cycle));
-    change(this.head, { width, height: this.headHeight });
-    change(this.body, { width, height });
-    this.body.style.marginTop = `${-this.headHeight - 1}px`;
+    const { clientWidth } = this.host;
+    const room = clientWidth > LEAST ? clientWidth : this.layout?.room || UNSEEN;
+    this.isStacked = isStacked({ log: this.shown.log, hidden: rows.hidden }, room, this.letter);
+    this.layout = layOut({ ...this.shown, rows }, { rowHeight: this.rowHeight, letter: this.letter, room, top: this.top });
+    const height = this.layout.y(rows.length) + END + cycleHeight(this.layout, this.view.cycle);
+    change(this.sheet, this.layout, height);
   }
 
   // Shows the edges and notes that were found since.
-  /** @param {Edge[]} edges */
-  update(edges) {
+  /**
+   * @param {ShownLog} shown
+   * @param {Edge[]} edges
+   */
+  update(shown, edges) {
+    this.shown = shown;
     this.edges = edges;
-    this.drawSoon(true);
+    if (this.layout && this.rowsNow) this.layout = { ...this.layout, ...shown };
+    this.drawSoon();
   }
 
   /** @param {PointedView} view */
@@ -229,19 +206,14 @@ export class PictureView {
     const isOther = view.cycle.length !== this.view.cycle.length;
     this.view = view;
     if (isOther) this.measure();
-    if (atEnd) this.host.scrollTop = this.host.scrollHeight;
+    if (atEnd && !view.isKept) this.host.scrollTop = this.host.scrollHeight;
     this.drawSoon();
   }
 
-  // Draws before the next frame, once; what was found since may need more room.
-  drawSoon(isMeasured = false) {
-    this.isToMeasure ||= isMeasured || Boolean(this.rows && this.rows.length > MEASURED);
+  // Draws before the next frame, once.
+  drawSoon() {
     cancelAnimationFrame(this.frame);
-    this.frame = requestAnimationFrame(() => {
-      if (this.isToMeasure) this.measure();
-      this.isToMeasure = false;
-      this.draw();
-    });
+    this.frame = requestAnimationFrame(() => this.draw());
   }
 
   // The rows of the picture that are in view, and some around them.
@@ -262,12 +234,12 @@ export class PictureView {
   draw() {
     if (!this.layout || !this.shown) return;
     if (this.version !== this.shown.log.version) this.measure();
+    const { layout, sheet } = this;
     const [from, to] = this.inView();
-    const { scrollLeft: left, clientWidth: wide } = this.host;
-    this.head.innerHTML = drawNames(this.layout, left);
     const edges = this.hasOrder ? this.edges : this.edges.filter(({ kind }) => kind !== "order");
-    this.drawn.innerHTML = drawRows(this.layout, edges, { view: this.view, describe: this.describe, wide, left }, from, to);
-    this.above.innerHTML = this.drawTakeBack(left + wide, left) + this.drawDrop();
+    sheet.names.innerHTML = drawNames(layout);
+    sheet.drawn.innerHTML = drawLanes(layout, edges, this.view, from, to);
+    sheet.lines.innerHTML = drawLines(layout, this.view, from, to, { describe: this.describe }) + besideOf(this);
     const row = this.row(this.view.pointed);
     const isDrawn = row !== null && row >= from && row <= to;
     if (isDrawn) this.host.setAttribute("aria-activedescendant", `row-${this.shown?.log.row(this.view.pointed)}`);
@@ -281,46 +253,6 @@ export class PictureView {
     return row < 0 || !this.rows?.has(row) ? null : this.rows.place(row);
   }
 
-  // The button beside the step that is pointed at, between these sides of what is in view.
-  /**
-   * @param {number} right
-   * @param {number} left
-   */
-  drawTakeBack(right, left) {
-    const row = this.row(this.view.pointed);
-    if (row === null || this.hand.drag || !this.view.count || !this.layout) return "";
-    const text = `take back ${this.view.count}`;
-    const width = text.length * (this.letter + 0.4) + 14;
-    const x = this.besideStep(row, width, right, left);
-    const mark = Number(this.layout.lefts.get(goroutineOf(this.view.pointed)));
-    const isOver = x < mark + 12 && x + width > mark - 12; // then it stands below, or above the last row
-    const below = row + 1 < Number(this.rows?.length) ? BUTTON : -BUTTON;
-    const y = this.layout.y(row) - BUTTON / 2 + (isOver ? below : 0);
-    return `<g class="take-back"><rect x="${x}" y="${y}" width="${width}" height="${BUTTON}"/><text x="${x + width / 2}" y="${y + 16}">${text}</text></g>`;
-  }
-
-  // Where a button of this width leaves the step of the row and its label free: right of them, or else left.
-  /**
-   * @param {number} row
-   * @param {number} width
-   * @param {number} right
-   * @param {number} left
-   */
-  besideStep(row, width, right, left) {
-    const layout = /** @type {import("./layout.js").Place} */ (this.layout);
-    const step = layout.log.step(layout.rows.at(row));
-    const x = Number(layout.lefts.get(step.goroutine));
-    const after = x + 24 + labelWidth(step, layout.notes(step.id), layout);
-    return after + width + 8 <= right ? after : Math.max(left + 64, x - width - 20);
-  }
-
-  drawDrop() {
-    const { drag } = this.hand;
-    if (!drag || drag.row === drag.from || !this.layout) return "";
-    const y = this.layout.y(drag.row + (drag.row > drag.from ? 0.5 : -0.5));
-    return `<line class="drop" x1="0" y1="${y}" x2="${this.layout.width}" y2="${y}"/>`;
-  }
-
   /** @param {number} y */
   rowAt(y) {
     return this.top + Math.floor(y / this.rowHeight);
@@ -329,7 +261,7 @@ export class PictureView {
   // The row under the pointer, or null.
   /** @param {MouseEvent} event */
   rowOf(event) {
-    const row = this.rowAt(event.clientY - this.host.getBoundingClientRect().top - this.head.clientHeight - 2 + this.host.scrollTop);
+    const row = this.rowAt(event.clientY - this.host.getBoundingClientRect().top - this.headHeight - 1 + this.host.scrollTop);
     return this.rows && row >= 0 && row < this.rows.length ? row : null;
   }
 
@@ -338,6 +270,7 @@ export class PictureView {
     return this.shown && this.rows && row < this.rows.length ? this.shown.log.id(this.rows.at(row)) : "";
   }
 
+  // Brings a step into view: its row, and its lane.
   /** @param {string} id */
   reveal(id) {
     const row = this.row(id);
@@ -346,25 +279,26 @@ export class PictureView {
     const room = this.host.clientHeight - this.headHeight;
     if (top < this.host.scrollTop) this.host.scrollTop = top - this.rowHeight;
     else if (top + this.rowHeight > this.host.scrollTop + room) this.host.scrollTop = top - room + 2 * this.rowHeight;
-    const left = Number(this.layout.lefts.get(id.slice(0, id.lastIndexOf("#"))));
-    const { scrollLeft, clientWidth } = this.host;
-    if (left < scrollLeft + 60 || left > scrollLeft + clientWidth - 120) this.host.scrollLeft = left - clientWidth / 2;
+    const { lefts, lanesInView } = this.layout;
+    const left = Number(lefts.get(id.slice(0, id.lastIndexOf("#"))));
+    const { scrollLeft } = this.host;
+    if (left < scrollLeft + 12 || left > scrollLeft + lanesInView - 12) this.host.scrollLeft = left - lanesInView / 2;
     this.draw();
   }
 
-  // The next step upward or downward (`by` -1 or 1), or the nearest of the goroutine that is that many columns away.
+  // The next step upward or downward (`by` -1 or 1), or the nearest of the goroutine that is that many lanes away.
   /**
    * @param {string | null} id
    * @param {number} by
    */
-  neighbour(id, by, columns = 0) {
+  neighbour(id, by, lanes = 0) {
     const { rows, shown } = this;
     if (!rows?.length || !shown) return "";
     const row = this.row(id);
     if (row === null) return this.idAt(by > 0 ? this.top : rows.length - 1);
-    if (!columns) return this.idAt(Math.max(0, Math.min(rows.length - 1, row + by)));
+    if (!lanes) return this.idAt(Math.max(0, Math.min(rows.length - 1, row + by)));
     const names = this.layout?.names || [];
-    const name = names[names.indexOf(String(id).slice(0, String(id).lastIndexOf("#"))) + columns];
+    const name = names[names.indexOf(String(id).slice(0, String(id).lastIndexOf("#"))) + lanes];
     const own = shown.log.byName.get(name)?.rows || [];
     const here = rows.at(row);
     const nearest = own.reduce((best, it) => (Math.abs(it - here) < Math.abs(best - here) ? it : best), own[0]);

@@ -227,6 +227,7 @@ export class Follower {
     const variables = frames[0]?.variables || [];
     const taken = (number && statement?.clauses[Number(number) - 1]) || "";
     const text = taken || statement?.text || "";
+    const frame = { depth: frames.length, variables };
     const channels = channelsOf(step.kind, statement, variables);
     const states = replies.slice(commands.length - sleepers.length);
     const woke = sleepers.filter((id, at) => parseGoroutine(states[at]).state !== "waiting" && !this.wakers.has(id));
@@ -235,7 +236,7 @@ export class Follower {
     const turn = this.turnOf(step, statement);
     const part = isReceive(step.kind) ? receivedPart(text, turn) : "";
     return {
-      line: this.statements.lineOf(line), statement, printed, woke, causes: null, edges: null, channels, cases, turn, taken,
+      line: this.statements.lineOf(line), statement, frame, printed, woke, causes: null, edges: null, channels, cases, turn, taken,
       received: "", part, over: taken ? caseOf(taken, variables) : operationOf(step.kind, text, part, variables),
     };
   }

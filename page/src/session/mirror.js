@@ -38,6 +38,7 @@ export class Mirror {
     this.remote = null;
     this.isClosed = false;
     this.isBehind = false; // it does not stand where the user's session does
+    this.missed = 0; // how many commands were begun that it could not do at the same time
     /** @type {Promise<unknown>} */
     this.turn = Promise.resolve();
     /** @type {Promise<unknown> | null} */
@@ -95,7 +96,10 @@ export class Mirror {
    */
   begin(line) {
     const { remote } = this;
-    if (this.isBehind || wordsOf(line)[0] === "redo") return { remote, answer: null };
+    if (this.isBehind || wordsOf(line)[0] === "redo") {
+      this.missed++;
+      return { remote, answer: null };
+    }
     const answer = this.inTurn(async () => this.session.ask(line));
     answer.catch(() => {}); // its end is seen by `follow`
     return { remote, answer };
@@ -141,14 +145,17 @@ export class Mirror {
     }
   }
 
-  // Begins anew where the session was lost or its journal is full: the kept steps are taken again.
+  // Begins anew where the session was lost or its journal is full: the kept steps are taken again. A command that was begun meanwhile
+  // is not among them: then it is behind once more.
   async rebuild() {
+    const { missed } = this;
     this.remote?.close();
     await this.open();
     this.isBehind = false;
     await this.take(this.log.steps(0, this.log.length));
     await this.session.askAll([...this.lines].map((line) => `break ${line}`));
     if (this.isBehind) throw new SessionGone("its steps could not be taken again");
+    this.isBehind = missed !== this.missed;
   }
 
   /** @param {Set<number>} lines */
@@ -167,24 +174,26 @@ export class Mirror {
   async answer(question) {
     for (;;) {
       await this.held;
-      const found = await this.inTurn(async () => (this.held ? null : { answer: await this.answerNow(question) }));
+      const found = await this.inTurn(async () => (this.held ? null : this.answerNow(question)));
       if (found) return found.answer;
     }
   }
 
+  // An answer, or nothing where a command was begun while this session was made anew.
   /**
    * @template T
    * @param {(remote: RemoteSession) => Promise<T>} question
-   * @returns {Promise<T>}
+   * @returns {Promise<{answer: T} | null>}
    */
   async answerNow(question) {
     if (this.isBehind) await this.rebuild();
+    if (this.isBehind) return null;
     try {
-      return await question(this.session);
+      return { answer: await question(this.session) };
     } catch (fault) {
       if (this.isClosed || !isLoss(fault)) throw fault;
       await this.rebuild();
-      return question(this.session);
+      return this.isBehind ? null : { answer: await question(this.session) };
     }
   }
 

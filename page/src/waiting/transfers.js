@@ -13,6 +13,7 @@ const RECEIVES = new Set(["meet", "take"]);
 // A statement that may use a channel which stands in no variable.
 const OPERANDS = /(?:<-|\brange)\s*(\w+)|(\w+)\s*<-/g; // the variables over which a statement sends or receives
 const SENDING = /[\w)]\s*<-/; // a case that sends
+const NAMED_SEND = /^\s*[A-Za-z_]\w*\s*<-/; // a send over the channel of a variable
 const HIDES = /<-\s*(<-|\(|\w+\s*(\(|<-))|\)\s*<-|\brange\s*(<-|\(|\w+\s*\()/;
 
 /** @param {string} kind */
@@ -51,11 +52,36 @@ export class Transfers {
    * @param {string} id
    */
   wanted(follower, id) {
+    const told = this.told(follower, id);
+    if (told) return this.of.has(told) ? [told] : [];
+    if (this.isHidden(follower, id)) return [...this.of.keys()];
+    const named = follower.notes.get(id)?.channels || [];
+    return [...this.of.keys()].filter((name) => !named.length || named.includes(name));
+  }
+
+  // The channel that a step used, where its statement tells it, or "".
+  /**
+   * @param {import("../session/follower.js").Follower} follower
+   * @param {string} id
+   */
+  told(follower, id) {
+    const note = follower.notes.get(id);
+    if (!note) return "";
+    if (note.over.isSend) return NAMED_SEND.test(this.textOf(follower, id)) ? note.over.channel : "";
+    if (note.part) return note.over.channel;
+    return note.channels.length === 1 && !this.isHidden(follower, id) ? note.channels[0] : "";
+  }
+
+  // Whether the channel of a step may stand in no variable.
+  /**
+   * @param {import("../session/follower.js").Follower} follower
+   * @param {string} id
+   */
+  isHidden(follower, id) {
     const text = this.textOf(follower, id);
     const named = follower.notes.get(id)?.channels || [];
-    const isTold = named.length >= new Set([...text.matchAll(OPERANDS)].map(([, behind, before]) => behind || before)).size;
-    if (!isTold || (this.carries && HIDES.test(text))) return [...this.of.keys()];
-    return [...this.of.keys()].filter((name) => !named.length || named.includes(name));
+    const operands = new Set([...text.matchAll(OPERANDS)].map(([, behind, before]) => behind || before));
+    return named.length < operands.size || (this.carries && HIDES.test(text));
   }
 
   // The statement of a step, or the case of a select that it picked.
@@ -95,7 +121,8 @@ export class Transfers {
     for (const { id, goroutine } of steps) this.last.set(goroutine, id);
   }
 
-  // Keeps what a step did. Where it may have used one channel or another, of what came before nothing is told.
+  // Keeps what a step did. Where it may have used one channel or another, of what came before nothing is told: a select that was met
+  // leaves the queues of all its channels.
   /**
    * @param {import("../session/follower.js").Follower} follower
    * @param {string[]} names
@@ -109,8 +136,9 @@ export class Transfers {
       const change = before[at].isOk && after[at].isOk && changeOf(isSend, parseChannel(name, before[at]), parseChannel(name, after[at]));
       return change ? [{ name, change }] : [];
     });
+    const isTold = Boolean(this.told(follower, step.id));
     for (const { name, change } of changes) {
-      if (changes.length > 1) this.of.set(name, { sent: [], taken: [], put: [] });
+      if (changes.length > 1 || (change.isSelect && !isTold)) this.of.set(name, { sent: [], taken: [], put: [] });
       else this.keep(name, step.id, change);
     }
   }
@@ -119,7 +147,7 @@ export class Transfers {
   /**
    * @param {string} name
    * @param {string} id
-   * @param {{isSend: boolean, woken: string}} change
+   * @param {{isSend: boolean, woken: string, isSelect: boolean}} change
    */
   keep(name, id, change) {
     const known = this.of.get(name);
@@ -143,12 +171,12 @@ export class Transfers {
  * @param {Channel} after
  */
 function changeOf(isSend, before, after) {
-  if (after.items.length !== before.items.length) return { isSend, woken: "" };
+  if (after.items.length !== before.items.length) return { isSend, woken: "", isSelect: false };
   const [left, stayed] = isSend ? [before.receivers, after.receivers] : [before.senders, after.senders];
   if (!isFirstGone(left, stayed)) return null;
-  const { goroutine: woken, value } = parseWaiter(left[0]);
+  const { goroutine: woken, clause, value } = parseWaiter(left[0]);
   const isRotated = isSend || !before.capacity || after.items.join() === [...before.items.slice(1), value].join();
-  return isRotated ? { isSend, woken } : null;
+  return isRotated ? { isSend, woken, isSelect: clause > 0 } : null;
 }
 
 // Whether the goroutine that was first in a queue is no longer in it; a select may stand there several times.

@@ -8,7 +8,13 @@ import { edgePath } from "../../src/picture/curves.js";
 import { channelsOf, worksOn } from "../../src/session/operations.js";
 import { escaped, shortened } from "../../src/picture/labels.js";
 import { layOut } from "../../src/picture/layout.js";
-import { drawRows, NOTHING_POINTED, sideOf } from "../../src/picture/picture.js";
+import { lineOf } from "../../src/picture/outcomes.js";
+import { drawLanes } from "../../src/picture/lanes.js";
+import { drawLines } from "../../src/picture/lines.js";
+import { NOTHING_POINTED, sideOf } from "../../src/picture/picture.js";
+
+/** @type {any} */
+const KNOWN = { functions: new Map(), notes: () => undefined, called: (/** @type {string} */ it) => it, standing: () => null, does: (/** @type {string} */ it) => it };
 
 /** @param {...[goroutine: string, kind: string]} steps */
 function logOf(...steps) {
@@ -65,8 +71,8 @@ test("rows stay as they are where a goroutine is hidden later", () => {
   const hidden = new Set();
   const rows = new Rows(log, { hidden });
   hidden.add("g0.1");
-  const { width, names } = layOut({ log, rows, functions: new Map(), notes: () => undefined, labels: "statement" }, { rowHeight: 22 });
-  assert.deepEqual([Number.isFinite(width), names], [true, ["g0", "g0.1"]]);
+  const { lanes, names } = layOut({ ...KNOWN, log, rows }, { rowHeight: 22 });
+  assert.deepEqual([Number.isFinite(lanes), names], [true, ["g0", "g0.1"]]);
 });
 
 // A goroutine that has made two channels and sends on the first: of a select all clauses count, of a pick the one that was picked.
@@ -103,6 +109,35 @@ test("texts that XML can hold", () => {
 
 test("a fault is drawn as one", () => {
   const log = logOf(["g0", "pure"], ["g0", "fault DivideByZero"]);
-  const place = layOut({ log, rows: new Rows(log), functions: new Map(), notes: () => undefined, labels: "statement" }, { rowHeight: 22 });
-  assert.ok(drawRows(place, [], { view: NOTHING_POINTED }, 0, 1).includes('class="step fault"'));
+  const place = layOut({ ...KNOWN, log, rows: new Rows(log) }, { rowHeight: 22 });
+  assert.ok(drawLanes(place, [], NOTHING_POINTED, 0, 1).includes('class="step fault"'));
+  assert.ok(drawLines(place, NOTHING_POINTED, 0, 1, {}).includes('class="step fault"'));
+});
+
+// Lanes come closer together as they become more, and from twelve on they scroll beside a text that keeps its room.
+test("lanes and columns of text", () => {
+  const widths = [3, 8, 11, 12, 60].map((count) => {
+    const log = logOf(...Array.from({ length: count - 1 }, () => /** @type {[string, string]} */ (["g0", "go"])));
+    const { lanes, lanesInView, lineWidth, columns, names } = layOut({ ...KNOWN, log, rows: new Rows(log) }, { rowHeight: 22, room: 750 });
+    assert.equal(names.length, count);
+    assert.ok(lanesInView + lineWidth === 750 && columns.number < columns.statement && columns.statement < columns.outcome && !columns.isStacked, `${count} goroutines leave columns of text beside each other`);
+    return [lanes, lanesInView];
+  });
+  assert.ok(widths.slice(0, 3).every(([lanes, inView]) => lanes === inView), "up to eleven lanes are in view at once");
+  assert.ok(widths.slice(3).every(([lanes, inView]) => lanes > inView && inView === widths[3][1]), "more of them scroll in the same room");
+  const narrow = logOf(["g0", "go"]);
+  assert.ok(layOut({ ...KNOWN, log: narrow, rows: new Rows(narrow) }, { rowHeight: 22, room: 372 }).columns.isStacked, "on a phone the outcome stands below its statement");
+});
+
+// What came of a step: a value that it gave, a message, a wait, a print.
+test("what came of a step", () => {
+  const log = logOf(["g0", "take"], ["g0", "pure"], ["g0", "recv-wait"], ["g0", "pure"]);
+  const frame = (/** @type {string[]} */ ...values) => ({ depth: 1, variables: values.map((value, at) => ({ name: `x${at}`, value })) });
+  const note = { statement: { text: "x0 := <-c" }, printed: [], part: "", received: "", taken: "", over: { channel: "g0/c1", sent: "", isSend: false }, frame: frame() };
+  /** @type {Map<string, any>} */
+  const notes = new Map([["g0#1", { ...note, received: "7" }], ["g0#2", note], ["g0#3", { ...note, frame: frame("7") }], ["g0#4", { ...note, printed: ["7"], frame: frame("7") }]]);
+  const known = { ...KNOWN, notes: (/** @type {string} */ id) => notes.get(id), called: () => "c (g0/c1)", standing: () => frame("8") };
+  const place = layOut({ ...known, log, rows: new Rows(log) }, { rowHeight: 22 });
+  const told = log.steps(0, 4).map((step) => lineOf(step, notes.get(step.id), place).outcome.map(({ name, text }) => `${name}: ${text}`));
+  assert.deepEqual(told, [["received: ← 7", "muted: from c (g0/c1)"], ["given: x0 = 7"], ["waits: waits for c (g0/c1)"], ["given: x0 = 8", "printed: “7”"]]);
 });

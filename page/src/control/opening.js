@@ -1,0 +1,59 @@
+// What the page begins with: the text of a link, the work that was kept, or a deadlock that has happened.
+
+import { counted } from "../element.js";
+import { fromHash } from "./linking.js";
+import { kept } from "./keeping.js";
+
+export const DAMAGED = "The link is damaged, and no session can be read of it: ask for it anew.";
+// The first view: the program is stuck, and a step is chosen that can be taken back.
+const FIRST = { name: "deadlock", commands: ["run 100"], chosen: "g0.2#1" };
+
+/** @typedef {import("./page.js").Page} Page */
+/** @typedef {import("./linking.js").Shared} Shared */
+
+// What the address holds, or nothing.
+/** @param {Page} page */
+export async function linked(page) {
+  try {
+    return { link: await fromHash(location.hash), isDamaged: false };
+  } catch {
+    page.views.transcript.fault(DAMAGED);
+    page.say(DAMAGED, "bad");
+    return { link: null, isDamaged: true };
+  }
+}
+
+// The first of these that there is. Undoing in the editor brings kept work back that a link replaced.
+/** @param {Page} page */
+export async function begin(page) {
+  const { editor, stories } = page.views;
+  const [{ link, isDamaged }, work] = [await linked(page), kept()];
+  const shared = link || work;
+  const source = stories.choose(shared ? shared.name || "" : FIRST.name);
+  editor.begin(work ? work.source : link ? "" : source);
+  if (link) editor.text = link.source;
+  return { shared: shared || { ...FIRST, source }, isDamaged, isFirst: !shared, theme: link?.theme || "" };
+}
+
+// Opens what the page begins with, and does its commands again.
+/**
+ * @param {Page} page
+ * @param {Shared} shared
+ */
+export async function openBeginning(page, shared) {
+  page.views.editor.markBreaks(shared.breaks || []);
+  if (!(await page.open()) || !shared.commands.length) return;
+  await page.replay(shared.commands);
+  page.views.stories.catchUp(shared.commands);
+  page.say(`${counted(shared.commands.length, "command")} ${shared.commands.length === 1 ? "was" : "were"} done again.`);
+  if (shared.chosen && page.session && page.session.log.row(shared.chosen) >= 0) await page.pointing.show(shared.chosen);
+}
+
+// Opens the first view once more.
+/** @param {Page} page */
+export async function openFirst(page) {
+  const { editor, stories } = page.views;
+  const source = stories.choose(FIRST.name);
+  editor.text = source;
+  await openBeginning(page, { ...FIRST, source });
+}

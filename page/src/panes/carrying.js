@@ -1,0 +1,61 @@
+// A refused source that is ordinary Go: it is carried over, and shown beside what comes of it.
+
+import { carry, FILE } from "../engine/carry.js";
+import { button, counted, find, make } from "../element.js";
+
+/** @typedef {import("../control/page.js").Page} Page */
+/** @typedef {import("../engine/carry.js").Carried} Carried */
+
+const IMPORTS = /^\s*import\b/m;
+
+// The button beside a refusal, where the source imports something.
+/**
+ * @param {Page} page
+ * @param {string} text
+ */
+export const carryButton = (page, text) => (IMPORTS.test(text) ? button({ class: "carry", onclick: () => carryOver(page, text) }, "Carry it over") : "");
+
+/**
+ * @param {Page} page
+ * @param {string} text
+ */
+async function carryOver(page, text) {
+  page.say("The source is being carried over.");
+  const found = await carry("source.go", text);
+  if (!found) return page.say(`What carries Go over is not here: put ${FILE} beside this page, and try again.`, "bad");
+  page.say(found.carried ? "The source can be carried over." : "The source cannot be carried over whole.", found.carried ? "" : "bad");
+  show(page, text, found);
+}
+
+/**
+ * @param {Page} page
+ * @param {string} text
+ * @param {Carried} found
+ */
+function show(page, text, found) {
+  const kind = found.carried ? "changed" : "left";
+  const notes = found.notes.filter((it) => it.kind === kind);
+  find("carry-title").textContent = found.carried ? "Carried over" : "Not carried over";
+  find("carry-text").textContent = textOf(found, notes.length);
+  find("carry-notes").replaceChildren(...notes.map((it) => make("li", {}, make("b", {}, `Line ${it.line}: `), it.what, it.advice ? `; ${it.advice}` : "")));
+  find("carry-sides").hidden = !found.carried;
+  find("carry-before").textContent = text;
+  find("carry-after").textContent = found.text || "";
+  const dialog = /** @type {HTMLDialogElement} */ (find("carry-dialog"));
+  find("carry-use").hidden = !found.carried;
+  find("carry-use").onclick = () => {
+    dialog.close();
+    page.views.editor.text = found.text;
+    page.open();
+  };
+  dialog.showModal();
+}
+
+/**
+ * @param {Carried} found
+ * @param {number} count
+ */
+function textOf(found, count) {
+  if (!found.carried) return `${counted(count, "place")} of the source cannot be carried over:`;
+  return count ? `The program means the same, but for ${counted(count, "place")}:` : "The program means the same.";
+}

@@ -1,0 +1,173 @@
+// What a line of the picture says of a step: its number, its statement, and what came of it.
+
+import { printedText, shortened } from "./labels.js";
+import { isWait, word } from "../session/edges.js";
+import { stepName } from "../engine/protocol.js";
+
+const GIVEN = 2; // variables that a line names
+const COUNTED = 20000; // steps of a goroutine up to which it is counted what it started and made
+const VALUE = 24; // letters
+
+/** @typedef {import("./layout.js").Place} Place */
+/** @typedef {{name: string, text: string}} Part */
+
+// The name of what a step started or made: its goroutine has done so this many times by then.
+/**
+ * @param {Place} place
+ * @param {Step} step
+ * @param {string} between
+ */
+function givenName({ log }, { goroutine, kind, row }, between) {
+  const rows = log.byName.get(goroutine)?.rows || [];
+  if (rows.length > COUNTED) return "";
+  return `${goroutine}${between}${rows.filter((it) => it <= row && log.kinds[it] === kind).length}`;
+}
+
+// The variables that have another value behind a step, in the same frame.
+/**
+ * @param {Step} step
+ * @param {Note} note
+ * @param {Place} place
+ */
+function given(step, { frame }, place) {
+  const next = place.notes(stepName(step.goroutine, step.number + 1))?.frame || place.standing(step);
+  if (!frame || !next || next.depth !== frame.depth) return "";
+  const changed = next.variables.filter(({ name, value }, at) => frame.variables[at]?.name !== name || frame.variables[at].value !== value);
+  const shown = changed.slice(0, GIVEN).map(({ name, value }) => `${name} = ${shortened(valueText(name, value, place), VALUE)}`);
+  return shown.join(", ") + (changed.length > GIVEN ? ", …" : "");
+}
+
+// A channel by the variable that holds it, unless it is this one.
+/**
+ * @param {string} name
+ * @param {string} value
+ * @param {Place} place
+ */
+function valueText(name, value, place) {
+  const called = value.includes("/c") ? place.called(value) : value;
+  return called.startsWith(`${name} (`) ? value : called;
+}
+
+/**
+ * @param {string} text
+ * @param {string} [name]
+ */
+const plain = (text, name = "muted") => (text ? [{ name, text }] : []);
+
+// What was received, by which part of the statement, and over which channel.
+/**
+ * @param {Note} note
+ * @param {string} called
+ */
+const received = (note, called) => [
+  { name: "received", text: `${note.part ? `${note.part} ` : ""}← ${shortened(note.received, VALUE)}` },
+  ...plain(called && `from ${called}`),
+];
+
+/**
+ * @param {Note} note
+ * @param {string} called
+ */
+const sent = (note, called) => plain(`→ ${note.over.sent ? `${shortened(note.over.sent, VALUE)} ` : ""}${called ? `to ${called}` : ""}`.trim());
+
+/**
+ * @param {string} kind
+ * @param {Note} note
+ * @param {string} called
+ */
+function waiting(kind, note, called) {
+  if (note.received) return received(note, called);
+  if (note.taken) return plain("after a wait");
+  const what = kind === "recv-wait" ? `for ${called || "a message"}` : kind === "send-wait" ? `to send${called ? ` to ${called}` : ""}` : "for a case";
+  return plain(`waits ${what}`, "waits");
+}
+
+/** @type {{[kind: string]: (step: Step, note: Note, place: Place, called: string) => Part[]}} */
+const OUTCOMES = {
+  hand: (_, note, __, called) => sent(note, called),
+  buffer: (_, note, __, called) => sent(note, called),
+  take: (_, note, __, called) => (note.received ? received(note, called) : plain(called && `← from ${called}`)),
+  meet: (_, note, __, called) => (note.received ? received(note, called) : plain(called && `← from ${called}`)),
+  pick: (_, note, __, called) => (note.received ? received(note, called) : note.over.isSend ? sent(note, called) : plain(called && `← from ${called}`)),
+  closed: (_, __, ___, called) => plain(`← nothing: ${called || "it"} is closed`),
+  default: () => plain("no case was ready"),
+  close: (_, __, ___, called) => plain(`closes ${called || "it"}`),
+  go: (step, _, place) => plain(`starts ${givenName(place, step, ".") || "a goroutine"}`),
+  make: (step, _, place) => plain(`makes ${givenName(place, step, "/c") ? place.called(givenName(place, step, "/c")) : "a channel"}`),
+  exit: () => plain("the program ends"),
+};
+
+/**
+ * @param {Step} step
+ * @param {Note} note
+ * @param {Place} place
+ * @returns {Part[]}
+ */
+function outcomeOf(step, note, place) {
+  const first = word(step.kind);
+  const called = note.over.channel ? place.called(note.over.channel) : "";
+  if (first === "fault") return plain(place.does(step.kind), "fault-text");
+  if (isWait(step.kind)) return waiting(step.kind, note, called);
+  return OUTCOMES[first]?.(step, note, place, called) || plain(given(step, note, place), "given");
+}
+
+// The statement of a step. Of a select that took a case it is the case, and at the end of a function what the step did.
+/**
+ * @param {Step} step
+ * @param {Note} note
+ * @param {Place} place
+ */
+function statementText({ kind }, { taken, statement }, place) {
+  if (kind === "default") return "default";
+  if (!statement || statement.text === "}") return place.does(kind);
+  return taken ? `case ${taken}` : statement.text;
+}
+
+// The parts of a line, each cut to its column.
+/**
+ * @param {Step} step
+ * @param {Note | undefined} note
+ * @param {Place} place
+ * @returns {{number: string, kind: string, outcome: Part[]}}
+ */
+export function lineOf(step, note, place) {
+  const { mostStatement, mostOutcome } = place.columns;
+  const number = step.id;
+  const printed = plain(printedText(note?.printed || [], mostOutcome), "printed");
+  if (!note) return { number, kind: shortened(place.does(step.kind), mostStatement), outcome: [] };
+  const parts = [...outcomeOf(step, note, place), ...printed];
+  return { number, kind: shortened(statementText(step, note, place), mostStatement), outcome: cut(parts, mostOutcome) };
+}
+
+// Parts that have at most so many letters together, with a blank between two.
+/**
+ * @param {Part[]} parts
+ * @param {number} most
+ */
+function cut(parts, most) {
+  let left = most;
+  const kept = [];
+  for (const { name, text } of parts) {
+    if (left < 4) break;
+    kept.push({ name, text: shortened(text, left) });
+    left -= text.length + 1;
+  }
+  return kept;
+}
+
+// The letters of the longest statement and outcome between two rows.
+/**
+ * @param {Place} place
+ * @param {number} from
+ * @param {number} to
+ */
+export function lettersOf(place, from, to) {
+  const needed = { statement: 4, outcome: 4 };
+  for (let at = from; at < Math.min(to, place.rows.length); at++) {
+    const step = place.log.step(place.rows.at(at));
+    const { kind, outcome } = lineOf(step, place.notes(step.id), place);
+    needed.statement = Math.max(needed.statement, kind.length);
+    needed.outcome = Math.max(needed.outcome, outcome.reduce((sum, { text }) => sum + text.length + 1, 0));
+  }
+  return needed;
+}
