@@ -1,0 +1,3 @@
+module rewind/carry
+
+go 1.19

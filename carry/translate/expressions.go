@@ -1,0 +1,487 @@
+package translate
+
+import (
+	"go/ast"
+	"go/constant"
+	"go/token"
+	"go/types"
+	"strings"
+)
+
+// value translates an expression.
+func (f *function) value(e ast.Expr) Value {
+	known := f.src.Info.Types[e]
+	if known.Value != nil {
+		return f.constant(known, e)
+	}
+	if known.IsNil() {
+		return Value{Shape: Nothing{}, Binds: atom}
+	}
+	switch it := e.(type) {
+	case *ast.Ident:
+		return f.identifier(it)
+	case *ast.ParenExpr:
+		return f.value(it.X)
+	case *ast.UnaryExpr:
+		return f.unary(it)
+	case *ast.BinaryExpr:
+		return f.binary(it)
+	case *ast.CallExpr:
+		return f.called(it)
+	case *ast.SelectorExpr, *ast.IndexExpr, *ast.StarExpr:
+		return f.read(f.place(e))
+	case *ast.CompositeLit:
+		return f.literal(it)
+	case *ast.FuncLit:
+		return f.closure(it)
+	case *ast.SliceExpr:
+		return f.slice(it)
+	case *ast.TypeAssertExpr:
+		f.refuse(e, "interfaces", "an assertion of a type is not carried", "use the type that stands behind it")
+	}
+	f.refuse(e, "expressions", "this expression is not carried", "")
+	return Value{}
+}
+
+// constant is a constant as a literal of the language.
+func (f *function) constant(known types.TypeAndValue, node ast.Expr) Value {
+	switch known.Value.Kind() {
+	case constant.Bool:
+		return single(Truth{}, known.Value.String(), false)
+	case constant.String:
+		return Value{Shape: Num{String}, Code: []string{itoa(f.texts.number(constant.StringVal(known.Value)))}, Binds: atom}
+	}
+	whole := constant.ToInt(known.Value)
+	if n, ok := constant.Int64Val(whole); ok && whole.Kind() == constant.Int {
+		found := number(int(n))
+		if n < 0 {
+			found.Binds = unary
+		}
+		if basic, ok := under(known.Type).(*types.Basic); ok && basic.Info()&types.IsInteger != 0 {
+			f.noteWidth(basic, node)
+		}
+		return found
+	}
+	f.refuse(node, "numbers", "the number "+known.Value.String()+" is not carried", "use whole numbers that fit int")
+	return Value{}
+}
+
+func (f *function) identifier(it *ast.Ident) Value {
+	switch object := f.object(it).(type) {
+	case *types.Var:
+		return f.read(f.variable(object, it))
+	case *types.Func:
+		if known := f.declared[object]; known != nil {
+			return Value{Shape: Func{Body: known}, Binds: atom}
+		}
+	}
+	f.refuse(it, "expressions", it.Name+" is not carried", "")
+	return Value{}
+}
+
+// fit makes a value one of a shape: `nil` becomes what stands for it there.
+func (f *function) fit(value Value, shape Shape, node ast.Node) Value {
+	if _, ok := value.Shape.(Nothing); ok {
+		return f.nothing(shape, node)
+	}
+	if value.Shape.key() == shape.key() {
+		return value
+	}
+	if grow, ok := shape.(Grow); ok {
+		return f.filled(value, grow, node)
+	}
+	if text, ok := shape.(Num); ok {
+		if own, ok := value.Shape.(Num); ok && (text.Text == own.Text || own.Text == Plain) {
+			return value
+		}
+	}
+	if own, ok := isTool(value.Shape); ok {
+		if wanted, ok := isTool(shape); ok && wanted == own {
+			return Value{Shape: shape, Code: value.Code, Binds: atom, Acts: value.Acts}
+		}
+	}
+	f.refuse(node, "types", "a value of another kind than before is not carried: "+value.Shape.key()+" for "+shape.key(), "give each variable one kind of value")
+	return Value{}
+}
+
+func (f *function) nothing(shape Shape, node ast.Node) Value {
+	switch it := shape.(type) {
+	case Num:
+		if it.Text == Error {
+			return Value{Shape: shape, Code: []string{"0"}, Binds: atom}
+		}
+	case Chan, Handle:
+		return f.nils(shape)
+	case Ref:
+		f.needsCheck = true
+		for _, isCell := range it.cells() {
+			if !isCell {
+				f.refuse(node, "pointers", "a pointer that may be nil to a value with fields that never change is not carried", "use a truth value beside it")
+			}
+		}
+		return f.nils(shape)
+	case List:
+		if it.Len == 0 {
+			return Value{Shape: shape, Binds: atom}
+		}
+	case Grow:
+		return f.zero(shape)
+	}
+	f.refuse(node, "pointers", "nil is not carried here", "")
+	return Value{}
+}
+
+func (f *function) nils(shape Shape) Value {
+	found := Value{Shape: shape, Binds: atom}
+	for range shape.leaves() {
+		found.Code = append(found.Code, "nil")
+	}
+	return found
+}
+
+// zero is the zero value of a shape.
+func (f *function) zero(shape Shape) Value {
+	if tool, ok := shape.(Tool); ok {
+		return f.newTool(tool)
+	}
+	found := Value{Shape: shape, Binds: atom}
+	switch it := shape.(type) {
+	case Record:
+		for _, field := range it.Fields {
+			part := f.zero(field.Shape)
+			found.Code, found.Acts = append(found.Code, part.Code...), found.Acts || part.Acts
+		}
+	case List:
+		for n := 0; n < it.Len; n++ {
+			part := f.zero(it.Elem)
+			found.Code, found.Acts = append(found.Code, part.Code...), found.Acts || part.Acts
+		}
+	case Grow:
+		part := f.zero(it.room())
+		found.Code, found.Acts = append([]string{"0"}, part.Code...), part.Acts
+	default:
+		if _, ok := shape.(Ref); ok {
+			f.needsCheck = true
+		}
+		for _, leaf := range shape.leaves() {
+			found.Code = append(found.Code, zeroOf(leaf.Type))
+		}
+	}
+	return found
+}
+
+// all translates expressions in their order. An obstacle in one does not keep those in the others from being noted. What acts before another one needs statements of its own is kept in variables.
+func (f *function) all(list []ast.Expr) []Value {
+	var found []Value
+	failed := false
+	for _, e := range list {
+		before := len(f.instance.pieces)
+		var value Value
+		if !f.attempt(e, func() { value = f.value(e) }) {
+			failed = true
+			continue
+		}
+		if after := f.instance.pieces[before:]; len(after) > 0 {
+			late := append([]piece(nil), after...)
+			f.instance.pieces = f.instance.pieces[:before]
+			for at := range found {
+				if found[at].Acts {
+					found[at] = f.spill(found[at], "value")
+				}
+			}
+			f.instance.pieces = append(f.instance.pieces, late...)
+		}
+		found = append(found, value)
+	}
+	if failed {
+		panic(obstacle{})
+	}
+	return found
+}
+
+func (f *function) unary(it *ast.UnaryExpr) Value {
+	switch it.Op {
+	case token.ARROW:
+		value, _ := f.receive(it.X, false)
+		return value
+	case token.AND:
+		return f.address(it)
+	}
+	value := f.value(it.X)
+	return Value{Shape: value.Shape, Code: []string{it.Op.String() + value.within(unary+1)}, Binds: unary, Acts: value.Acts}
+}
+
+// address is the address of a variable that is shared, or of a new value.
+func (f *function) address(it *ast.UnaryExpr) Value {
+	x := it.X
+	for {
+		paren, ok := x.(*ast.ParenExpr)
+		if !ok {
+			break
+		}
+		x = paren.X
+	}
+	if lit, ok := x.(*ast.CompositeLit); ok {
+		value := f.literal(lit)
+		if tool, ok := isTool(value.Shape); ok {
+			return Value{Shape: tool, Code: value.Code, Binds: atom, Acts: true}
+		}
+		return Value{Shape: Ref{value.Shape}, Code: f.celled(value), Binds: atom, Acts: true}
+	}
+	where := f.place(x)
+	if tool, ok := isTool(where.shape); ok {
+		return Value{Shape: tool, Code: where.code, Binds: atom}
+	}
+	for at, leaf := range where.shape.leaves() {
+		if !where.cells[at] && !leaf.Fixed {
+			f.refuse(it, "pointers", "the address of this value is not carried", "let it be a variable of its own")
+		}
+	}
+	return Value{Shape: Ref{where.shape}, Code: where.code, Binds: atom}
+}
+
+var precedence = map[token.Token]int{
+	token.LOR: 1, token.LAND: 2, token.EQL: 3, token.NEQ: 3, token.LSS: 3, token.LEQ: 3, token.GTR: 3, token.GEQ: 3,
+	token.ADD: 4, token.SUB: 4, token.OR: 4, token.XOR: 4, token.MUL: 5, token.QUO: 5, token.REM: 5, token.SHL: 5, token.SHR: 5,
+	token.AND: 5, token.AND_NOT: 5,
+}
+
+func (f *function) binary(it *ast.BinaryExpr) Value {
+	if it.Op == token.LAND || it.Op == token.LOR {
+		return f.shortened(it)
+	}
+	sides := f.all([]ast.Expr{it.X, it.Y})
+	if it.Op == token.EQL || it.Op == token.NEQ {
+		return f.compared(it, sides[0], sides[1])
+	}
+	for _, side := range sides {
+		if text, ok := side.Shape.(Num); ok && text.Text == String {
+			f.refuse(it, "texts", "texts that are put together or put in order while the program runs are not carried", "print the parts one after another")
+		}
+	}
+	shape := sides[0].Shape
+	if precedence[it.Op] == 3 {
+		shape = Truth{}
+	}
+	found := f.joined(it.Op, shape, sides[0], sides[1])
+	found.Number = computed(it.Op, sides[0].Number, sides[1].Number)
+	return found
+}
+
+// computed is the number that an operator gives, where both sides are known.
+func computed(op token.Token, x, y *int) *int {
+	if x == nil || y == nil || (op == token.QUO || op == token.REM) && *y == 0 {
+		return nil
+	}
+	value := map[token.Token]func(a, b int) int{
+		token.ADD: func(a, b int) int { return a + b }, token.SUB: func(a, b int) int { return a - b },
+		token.MUL: func(a, b int) int { return a * b }, token.QUO: func(a, b int) int { return a / b },
+		token.REM: func(a, b int) int { return a % b },
+	}[op]
+	if value == nil {
+		return nil
+	}
+	found := value(*x, *y)
+	return &found
+}
+
+func (f *function) joined(op token.Token, shape Shape, x, y Value) Value {
+	binds := precedence[op]
+	code := x.within(binds) + " " + op.String() + " " + y.within(binds+1)
+	return Value{Shape: shape, Code: []string{code}, Binds: binds, Acts: x.Acts || y.Acts}
+}
+
+// shortened is `&&` or `||`. Where the right side needs statements of its own, they stand in an `if`.
+func (f *function) shortened(it *ast.BinaryExpr) Value {
+	x := f.value(it.X)
+	before := len(f.instance.pieces)
+	y := f.value(it.Y)
+	if len(f.instance.pieces) == before {
+		return f.joined(it.Op, Truth{}, x, y)
+	}
+	late := append([]piece(nil), f.instance.pieces[before:]...)
+	f.instance.pieces = f.instance.pieces[:before]
+	held := f.temporary("holds")
+	f.emit(held + " := " + x.one())
+	condition := held
+	if it.Op == token.LOR {
+		condition = "!" + held
+	}
+	f.open("if " + condition + " {")
+	f.instance.pieces = append(f.instance.pieces, late...)
+	f.emit(held + " = " + y.one())
+	f.close()
+	return single(Truth{}, held, false)
+}
+
+// compared is `==` or `!=`, of each leaf.
+func (f *function) compared(it *ast.BinaryExpr, x, y Value) Value {
+	if _, ok := x.Shape.(Nothing); ok {
+		x = f.fit(x, y.Shape, it)
+	} else {
+		y = f.fit(y, x.Shape, it)
+	}
+	codes := len(x.Code)
+	if ref, ok := x.Shape.(Ref); ok {
+		// Two pointers are equal where their first cells are.
+		for at, isCell := range ref.cells() {
+			if isCell {
+				x, y = x.leaf(at), y.leaf(at)
+				return f.joined(it.Op, Truth{}, x, y)
+			}
+		}
+		f.refuse(it, "pointers", "pointers to values that never change are not compared", "compare what they lead to")
+	}
+	if _, ok := isTool(x.Shape); ok {
+		return f.joined(it.Op, Truth{}, x.leaf(0), y.leaf(0))
+	}
+	if codes == 0 {
+		return single(Truth{}, map[token.Token]string{token.EQL: "true", token.NEQ: "false"}[it.Op], false)
+	}
+	between := map[token.Token]token.Token{token.EQL: token.LAND, token.NEQ: token.LOR}[it.Op]
+	found := f.joined(it.Op, Truth{}, x.leaf(0), y.leaf(0))
+	for at := 1; at < codes; at++ {
+		found = f.joined(between, Truth{}, found, f.joined(it.Op, Truth{}, x.leaf(at), y.leaf(at)))
+	}
+	return found
+}
+
+// leaf is one leaf as a value. An expression of which nothing is known but its text binds as its operators do.
+func (v Value) leaf(at int) Value {
+	binds := v.Binds
+	if len(v.Code) > 1 && strings.Contains(v.Code[at], " ") {
+		binds = 0
+	}
+	return Value{Shape: v.Shape, Code: v.Code[at : at+1], Binds: binds, Acts: v.Acts}
+}
+
+// literal is a struct, an array or a slice that is written down.
+func (f *function) literal(it *ast.CompositeLit) Value {
+	t := f.typeOf(it)
+	if pointer, ok := under(t).(*types.Pointer); ok {
+		value := f.elements(it, pointer.Elem())
+		return Value{Shape: Ref{value.Shape}, Code: f.celled(value), Binds: atom, Acts: true}
+	}
+	return f.elements(it, t)
+}
+
+func (f *function) elements(it *ast.CompositeLit, t types.Type) Value {
+	if tool := toolOf(t); tool != "" {
+		return f.toolLiteral(tool, it)
+	}
+	switch kind := under(t).(type) {
+	case *types.Struct:
+		shape := f.shapeOf(t, it)
+		if record, ok := shape.(Record); ok {
+			return f.recordLiteral(it, record, kind)
+		}
+		return Value{Shape: shape, Binds: atom}
+	case *types.Array:
+		return f.listLiteral(it, int(kind.Len()), kind.Elem(), false)
+	case *types.Slice:
+		return f.listLiteral(it, -1, kind.Elem(), f.slices[kind.Elem().String()])
+	}
+	f.shapeOf(t, it)
+	return Value{}
+}
+
+func (f *function) recordLiteral(it *ast.CompositeLit, record Record, t *types.Struct) Value {
+	var given []ast.Expr
+	var places []int
+	for at, e := range it.Elts {
+		if pair, ok := e.(*ast.KeyValueExpr); ok {
+			for n, field := range record.Fields {
+				if field.Name == pair.Key.(*ast.Ident).Name {
+					at = n
+				}
+			}
+			e = pair.Value
+		}
+		given, places = append(given, e), append(places, at)
+	}
+	values := f.all(given)
+	found := Value{Shape: record, Binds: atom}
+	for at, field := range record.Fields {
+		part := Value{}
+		for n, place := range places {
+			if place == at {
+				part = f.fit(values[n], field.Shape, it)
+			}
+		}
+		if part.Shape == nil {
+			part = f.zero(field.Shape)
+		}
+		found.Code, found.Acts = append(found.Code, part.Code...), found.Acts || part.Acts
+	}
+	_ = t
+	return found
+}
+
+func (f *function) listLiteral(it *ast.CompositeLit, length int, elem types.Type, isWritten bool) Value {
+	if length < 0 {
+		length = len(it.Elts)
+	}
+	if length > mostElements {
+		f.refuse(it, "slices", "a slice of more than 64 elements is not carried", "use fewer")
+	}
+	for _, e := range it.Elts {
+		if _, ok := e.(*ast.KeyValueExpr); ok {
+			f.refuse(e, "slices", "an element with its index is not carried", "write the elements in their order")
+		}
+	}
+	values := f.all(it.Elts)
+	var shape Shape
+	if len(values) > 0 {
+		shape = values[0].Shape
+	}
+	if _, ok := shape.(Func); !ok || shape == nil {
+		shape = f.shapeOf(elem, it)
+	}
+	found := Value{Shape: List{length, shape}, Binds: atom}
+	for at := 0; at < length; at++ {
+		part := f.zero(shape)
+		if at < len(values) {
+			part = f.fit(values[at], shape, it)
+		}
+		found.Code, found.Acts = append(found.Code, part.Code...), found.Acts || part.Acts
+	}
+	if isWritten {
+		return Value{Shape: Ref{found.Shape}, Code: f.celled(found), Binds: atom, Acts: true, Raw: found.Code}
+	}
+	return found
+}
+
+// slice is a part of a slice or an array between constant bounds.
+func (f *function) slice(it *ast.SliceExpr) Value {
+	where := f.start(it.X)
+	ref, isRef := where.shape.(Ref)
+	if isRef {
+		where = f.pointee(f.read(where))
+		_ = ref
+	}
+	list, ok := where.shape.(List)
+	low, high := 0, list.Len
+	for _, bound := range []struct {
+		e  ast.Expr
+		to *int
+	}{{it.Low, &low}, {it.High, &high}} {
+		if bound.e != nil {
+			n := f.value(bound.e).Number
+			ok = ok && n != nil
+			if n != nil {
+				*bound.to = *n
+			}
+		}
+	}
+	if !ok || low > high || high > list.Len {
+		f.refuse(it, "slices", "a part of a slice is not carried, but between constant bounds", "write the loop over the indices")
+	}
+	width := len(list.Elem.leaves())
+	part := place{List{high - low, list.Elem}, where.code[low*width : high*width], where.cells[low*width : high*width]}
+	for _, isCell := range part.cells {
+		if isCell {
+			return Value{Shape: Ref{part.shape}, Code: part.code, Binds: atom}
+		}
+	}
+	return f.read(part)
+}

@@ -1,0 +1,232 @@
+package translate
+
+import (
+	"go/ast"
+	"go/constant"
+	"go/token"
+	"go/types"
+)
+
+// packageVariable is a variable of a known package: an error.
+func (f *function) packageVariable(object *types.Var, node ast.Node) place {
+	switch object.Pkg().Path() + "." + object.Name() {
+	case "context.Canceled":
+		return f.known("context canceled")
+	case "context.DeadlineExceeded":
+		return f.known("context deadline exceeded")
+	}
+	f.refuse(node, "packages", object.Pkg().Name()+"."+object.Name()+" is not carried", "")
+	return place{}
+}
+
+func (f *function) known(text string) place {
+	return place{Num{Error}, []string{itoa(f.errors.number(text))}, []bool{false}}
+}
+
+// packageCall is a call of a function of a known package.
+func (f *function) packageCall(it *ast.CallExpr, object *types.Func) []Value {
+	name := object.Pkg().Path() + "." + object.Name()
+	do := packageCalls[name]
+	if do == nil {
+		f.refuse(it, "packages", object.Pkg().Name()+"."+object.Name()+" is not carried", "pass what it gives as a number")
+	}
+	return do(f, it)
+}
+
+var packageCalls map[string]func(*function, *ast.CallExpr) []Value
+
+func init() {
+	packageCalls = map[string]func(*function, *ast.CallExpr) []Value{
+		"fmt.Println": prints, "log.Println": logs, "log.Print": logs, "fmt.Print": printsOpen,
+		"fmt.Printf": formats, "log.Printf": logsFormat, "log.SetFlags": nothing,
+		"log.Fatal": fatal, "log.Fatalln": fatal, "log.Fatalf": fatalFormat,
+		"fmt.Errorf": newError, "errors.New": newError, "errors.Is": isOfError,
+		"time.Sleep": sleeps, "time.After": after, "time.Tick": tick, "time.NewTimer": newTimer, "time.NewTicker": newTicker,
+		"context.Background": background, "context.TODO": background, "context.WithCancel": withCancel, "context.WithTimeout": withTimeout,
+		"golang.org/x/sync/errgroup.WithContext": groupWithContext,
+		"sync.NewCond":                           newCond,
+		"math/rand.Intn":                         chooses, "math/rand.Int31n": chooses, "math/rand.Int63n": chooses, "math/rand.Seed": nothing,
+		"runtime.Gosched": nothing, "runtime.GOMAXPROCS": nothing, "runtime.GC": nothing,
+		"os.Exit": exits,
+	}
+	for _, size := range []string{"Int32", "Int64", "Uint32", "Uint64"} {
+		packageCalls["sync/atomic.Add"+size] = atomic("atomic_add", Num{})
+		packageCalls["sync/atomic.Swap"+size] = atomic("atomic_swap", Num{})
+		packageCalls["sync/atomic.CompareAndSwap"+size] = atomic("compare_and_swap", Truth{})
+		packageCalls["sync/atomic.Load"+size] = atomicLoads
+		packageCalls["sync/atomic.Store"+size] = atomicStores
+	}
+}
+
+func nothing(f *function, it *ast.CallExpr) []Value { return nil }
+
+func prints(f *function, it *ast.CallExpr) []Value {
+	f.print(it, it.Args)
+	return nil
+}
+
+func printsOpen(f *function, it *ast.CallExpr) []Value {
+	f.change(it, "printing", "what Print writes is a line of its own")
+	f.line(it, f.items(it.Args))
+	return nil
+}
+
+func logs(f *function, it *ast.CallExpr) []Value {
+	f.change(it, "printing", "what log writes is a line of the console, without the time")
+	f.line(it, f.items(it.Args))
+	return nil
+}
+
+func formats(f *function, it *ast.CallExpr) []Value {
+	f.format(it, it.Args)
+	return nil
+}
+
+func logsFormat(f *function, it *ast.CallExpr) []Value {
+	f.change(it, "printing", "what log writes is a line of the console, without the time")
+	f.format(it, it.Args)
+	return nil
+}
+
+func fatal(f *function, it *ast.CallExpr) []Value {
+	logs(f, it)
+	return exits(f, it)
+}
+
+func fatalFormat(f *function, it *ast.CallExpr) []Value {
+	logsFormat(f, it)
+	return exits(f, it)
+}
+
+func exits(f *function, it *ast.CallExpr) []Value {
+	f.change(it, "exit", "to leave the program is a fault: a call of the function exit closes a nil channel")
+	f.emit(f.fault("exit") + "()")
+	return nil
+}
+
+// newError is an error with a text that is known. Each place has an error of its own.
+func newError(f *function, it *ast.CallExpr) []Value {
+	known := f.src.Info.Types[it.Args[0]]
+	if known.Value == nil || len(it.Args) > 1 {
+		f.refuse(it, "texts", "an error whose text is made while the program runs is not carried", "use an error with a constant text")
+	}
+	f.carry(it, "errors", "an error is a number, and is printed as its text")
+	at, ok := f.errorPlaces[it]
+	if !ok {
+		at = f.errors.fresh(constant.StringVal(known.Value))
+		f.errorPlaces[it] = at
+	}
+	return []Value{{Shape: Num{Error}, Code: []string{itoa(at)}, Binds: atom}}
+}
+
+func isOfError(f *function, it *ast.CallExpr) []Value {
+	sides := f.all(it.Args)
+	return []Value{f.compared(&ast.BinaryExpr{X: it.Args[0], Op: token.EQL, OpPos: it.Pos(), Y: it.Args[1]}, sides[0], sides[1])}
+}
+
+func sleeps(f *function, it *ast.CallExpr) []Value {
+	f.change(it, "time", "there is no time: a sleep is left away, and whoever is ready may go")
+	return nil
+}
+
+func after(f *function, it *ast.CallExpr) []Value {
+	f.change(it, "time", told[Timer])
+	return []Value{single(Chan{Unit{}}, f.helper("after")+"()", true)}
+}
+
+func tick(f *function, it *ast.CallExpr) []Value {
+	f.change(it, "time", told[Timer])
+	return []Value{single(Chan{Unit{}}, f.helper("tick")+"()", true)}
+}
+
+func newTimer(f *function, it *ast.CallExpr) []Value { return timer(f, it, "run_timer") }
+
+func newTicker(f *function, it *ast.CallExpr) []Value { return timer(f, it, "run_ticker") }
+
+func timer(f *function, it *ast.CallExpr, run string) []Value {
+	f.change(it, "time", told[Timer])
+	made := f.spill(Value{Shape: Timer, Code: []string{"make(chan struct{}, 1)", "make(chan struct{}, 1)"}, Binds: atom, Acts: true}, "timer")
+	f.emit("go " + f.helper(run) + "(" + commas(made.Code) + ")")
+	return []Value{made}
+}
+
+func background(f *function, it *ast.CallExpr) []Value {
+	return []Value{{Shape: Context, Code: []string{f.typedZero("chan struct{}"), f.cell("int") + "(0)"}, Binds: atom, Acts: true}}
+}
+
+func withCancel(f *function, it *ast.CallExpr) []Value {
+	f.carry(it, "context", told[Context])
+	return child(f, it)
+}
+
+func child(f *function, it *ast.CallExpr) []Value {
+	parent := f.value(it.Args[0])
+	if parent.Acts {
+		parent = f.spill(parent, "parent")
+	}
+	made := f.spill(Value{Shape: Context, Code: []string{"make(chan struct{})", f.cell("int") + "(0)"}, Binds: atom, Acts: true}, "ctx")
+	if !isBackground(f, it.Args[0]) {
+		f.emit("go " + f.helper("follow") + "(" + commas(parent.Code, made.Code) + ")")
+	}
+	return []Value{made, {Shape: Cancel, Code: made.Code, Binds: atom}}
+}
+
+// isBackground says whether a context never ends.
+func isBackground(f *function, e ast.Expr) bool {
+	call, ok := unparen(e).(*ast.CallExpr)
+	if !ok {
+		return false
+	}
+	selector, ok := call.Fun.(*ast.SelectorExpr)
+	return ok && (selector.Sel.Name == "Background" || selector.Sel.Name == "TODO")
+}
+
+func withTimeout(f *function, it *ast.CallExpr) []Value {
+	f.change(it, "context", "there is no time: a goroutine stands for the timeout, and may go at any moment")
+	found := child(f, it)
+	f.emit("go " + f.helper("expire") + "(" + commas(found[0].Code, []string{itoa(f.errors.number("context deadline exceeded"))}) + ")")
+	return found
+}
+
+func groupWithContext(f *function, it *ast.CallExpr) []Value {
+	f.carry(it, "errgroup", told[Group])
+	found := child(f, it)
+	group := Value{Shape: Group, Code: []string{f.cell("int") + "(0)", f.helper("token") + "()", f.cell("int") + "(0)"}, Binds: atom, Acts: true}
+	group.Code = append(group.Code, found[0].Code...)
+	return []Value{group, found[0]}
+}
+
+func newCond(f *function, it *ast.CallExpr) []Value {
+	f.carry(it, "cond", told[Cond])
+	return []Value{f.conditionWith(f.value(it.Args[0]), it)}
+}
+
+const mostChoices = 16
+
+// chooses is a number by chance: whoever takes the step chooses it.
+func chooses(f *function, it *ast.CallExpr) []Value {
+	n := f.staticInt(it.Args[0])
+	if n == nil || *n < 1 || *n > mostChoices {
+		f.refuse(it, "chance", "a number by chance is carried only up to a constant of at most 16", "choose among fewer")
+	}
+	f.change(it, "chance", "a number by chance is a select in which each case is ready: whoever takes the step chooses")
+	return []Value{single(Num{}, f.helper("choose:"+itoa(*n))+"()", true)}
+}
+
+func atomic(helper string, shape Shape) func(*function, *ast.CallExpr) []Value {
+	return func(f *function, it *ast.CallExpr) []Value {
+		f.carry(it, "atomic", told[Counter])
+		return []Value{single(shape, f.helper(helper)+"("+commas(f.codes(it.Args))+")", true)}
+	}
+}
+
+func atomicLoads(f *function, it *ast.CallExpr) []Value {
+	f.carry(it, "atomic", told[Counter])
+	return []Value{single(Num{}, f.load("int")+"("+commas(f.codes(it.Args))+")", true)}
+}
+
+func atomicStores(f *function, it *ast.CallExpr) []Value {
+	f.carry(it, "atomic", told[Counter])
+	f.emit(f.storing("int") + "(" + commas(f.codes(it.Args)) + ")")
+	return nil
+}

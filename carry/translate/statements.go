@@ -1,0 +1,436 @@
+package translate
+
+import (
+	"go/ast"
+	"go/token"
+	"go/types"
+	"strings"
+)
+
+// block translates statements one after another; what is not carried ends only its own statement.
+func (f *function) block(list []ast.Stmt) {
+	f.depth++
+	for _, stmt := range list {
+		f.statement(stmt, "")
+	}
+	f.depth--
+}
+
+func (f *function) statement(stmt ast.Stmt, label string) {
+	f.at = stmt.Pos()
+	before := len(f.instance.pieces)
+	if !f.attempt(stmt, func() { f.carryOver(stmt, label) }) {
+		f.loseNames(stmt)
+		f.noteInside(stmt)
+		f.instance.pieces = f.instance.pieces[:before]
+	}
+}
+
+// noteInside notes the obstacles in the blocks of a statement that is not carried.
+func (f *function) noteInside(stmt ast.Stmt) {
+	ast.Inspect(stmt, func(node ast.Node) bool {
+		switch it := node.(type) {
+		case *ast.FuncLit:
+			return false
+		case *ast.CaseClause:
+			f.block(it.Body)
+			return false
+		case *ast.CommClause:
+			f.block(it.Body)
+			return false
+		case *ast.BlockStmt:
+			if hasClauses(it) {
+				return true
+			}
+			f.block(it.List)
+			return false
+		}
+		return true
+	})
+}
+
+func hasClauses(it *ast.BlockStmt) bool {
+	if len(it.List) == 0 {
+		return false
+	}
+	switch it.List[0].(type) {
+	case *ast.CaseClause, *ast.CommClause:
+		return true
+	}
+	return false
+}
+
+// loseNames marks the variables that a statement declares as not carried, so that their uses are not noted, too.
+func (f *function) loseNames(stmt ast.Stmt) {
+	ast.Inspect(stmt, func(node ast.Node) bool {
+		if name, ok := node.(*ast.Ident); ok {
+			if object, ok := f.src.Info.Defs[name].(*types.Var); ok && f.bound[object] == nil {
+				f.bad[object] = true
+			}
+		}
+		return true
+	})
+}
+
+func (f *function) carryOver(stmt ast.Stmt, label string) {
+	switch it := stmt.(type) {
+	case *ast.EmptyStmt:
+	case *ast.ExprStmt:
+		f.expression(it)
+	case *ast.SendStmt:
+		f.send(it)
+	case *ast.IncDecStmt:
+		op := map[token.Token]token.Token{token.INC: token.ADD, token.DEC: token.SUB}[it.Tok]
+		f.update(it, it.X, op, number(1), it.Tok.String())
+	case *ast.AssignStmt:
+		f.assign(it)
+	case *ast.GoStmt:
+		f.starts(it)
+	case *ast.DeferStmt:
+		f.defers(it)
+	case *ast.ReturnStmt:
+		f.returns(it)
+	case *ast.BranchStmt:
+		f.branch(it)
+	case *ast.BlockStmt:
+		f.open("{")
+		f.block(it.List)
+		f.at = it.Rbrace
+		f.close()
+	case *ast.IfStmt:
+		f.ifs(it)
+	case *ast.SwitchStmt:
+		f.switches(it, label)
+	case *ast.SelectStmt:
+		f.selects(it, label)
+	case *ast.ForStmt:
+		f.loop(it, label)
+	case *ast.RangeStmt:
+		f.ranges(it, label)
+	case *ast.LabeledStmt:
+		f.carryOver(it.Stmt, it.Label.Name)
+	case *ast.DeclStmt:
+		f.declaration(it.Decl.(*ast.GenDecl))
+	case *ast.TypeSwitchStmt:
+		f.refuse(it, "interfaces", "a switch over types is not carried", "use the type that stands behind the interface")
+	default:
+		f.refuse(it, "statements", "this statement is not carried", "")
+	}
+}
+
+func (f *function) expression(it *ast.ExprStmt) {
+	x := unparen(it.X)
+	if arrow, ok := x.(*ast.UnaryExpr); ok && arrow.Op == token.ARROW {
+		from := f.value(arrow.X)
+		f.emit("<-" + from.within(unary))
+		return
+	}
+	call, ok := x.(*ast.CallExpr)
+	if !ok {
+		f.refuse(it, "statements", "this statement is not carried", "")
+	}
+	for _, value := range f.call(call) {
+		if value.Acts && len(value.Code) > 0 {
+			if strings.HasSuffix(value.Code[0], ")") && len(value.Code) == 1 && !strings.HasPrefix(value.Code[0], "make(") && !strings.HasPrefix(value.Code[0], "len(") {
+				f.emit(value.Code[0])
+			} else {
+				f.emit(strings.TrimSuffix(strings.Repeat("_, ", len(value.Code)), ", ") + " = " + commas(value.Code))
+			}
+		}
+	}
+}
+
+func (f *function) declaration(it *ast.GenDecl) {
+	if it.Tok != token.VAR {
+		return // constants stand where they are used, and types in the shapes
+	}
+	for _, spec := range it.Specs {
+		f.at = spec.Pos()
+		f.declareSpec(spec.(*ast.ValueSpec))
+	}
+}
+
+func (f *function) declareSpec(spec *ast.ValueSpec) {
+	if len(spec.Values) == 0 {
+		for _, name := range spec.Names {
+			f.declareZero(name)
+		}
+		return
+	}
+	values := f.arguments(spec.Values)
+	for at, name := range spec.Names {
+		value := values[at]
+		if object := f.src.Info.Defs[name]; object != nil {
+			value = f.fitVariable(value, object, name)
+		}
+		f.declare(name, value)
+	}
+}
+
+// fitVariable fits a value to a variable that is declared with it.
+func (f *function) fitVariable(value Value, object types.Object, node ast.Node) Value {
+	if shape := f.grows(object, node); shape != nil {
+		return f.fit(value, shape, node)
+	}
+	return f.fitType(value, object.Type(), node)
+}
+
+// fitType fits a value to a declared type, unless its shape is known from the value alone.
+func (f *function) fitType(value Value, t types.Type, node ast.Node) Value {
+	switch under(t).(type) {
+	case *types.Slice, *types.Signature:
+		if _, ok := value.Shape.(Nothing); !ok {
+			return value
+		}
+	}
+	return f.fit(value, f.shapeOf(t, node), node)
+}
+
+func (f *function) declareZero(name *ast.Ident) {
+	object := f.src.Info.Defs[name]
+	if object == nil {
+		return
+	}
+	shape := f.grows(object, name)
+	if slice, ok := under(object.Type()).(*types.Slice); ok && shape == nil {
+		shape = List{0, f.shapeOf(slice.Elem(), name)}
+	} else if shape == nil {
+		shape = f.shapeOf(object.Type(), name)
+	}
+	if f.isShared(object, f.options.SharesLoops) || isShared(shape) {
+		f.bind(object, f.zero(shape))
+		return
+	}
+	names := f.leafNames(object.Name(), shape)
+	f.bound[object] = &binding{shape: shape, names: names}
+	value := f.zero(shape)
+	for at, leaf := range shape.leaves() {
+		if value.Code[at] == zeroOf(leaf.Type) {
+			f.emit("var " + names[at] + " " + leaf.Type)
+		} else {
+			f.emit(names[at] + " := " + value.Code[at])
+		}
+	}
+}
+
+func (f *function) assign(it *ast.AssignStmt) {
+	if it.Tok != token.DEFINE && it.Tok != token.ASSIGN {
+		op := it.Tok - token.ADD_ASSIGN + token.ADD
+		f.update(it, it.Lhs[0], op, f.value(it.Rhs[0]), it.Tok.String())
+		return
+	}
+	if len(it.Lhs) == 2 && len(it.Rhs) == 1 {
+		if arrow, ok := unparen(it.Rhs[0]).(*ast.UnaryExpr); ok && arrow.Op == token.ARROW {
+			f.receiveTwo(it, arrow)
+			return
+		}
+	}
+	if call := f.appendsTo(it); call != nil {
+		f.grow(it, call)
+		return
+	}
+	if f.alias(it) {
+		return
+	}
+	f.assignAll(it, it.Lhs, f.arguments(it.Rhs))
+}
+
+// receiveTwo is `v, ok := <-c`. New names that are not shared take both themselves.
+func (f *function) receiveTwo(it *ast.AssignStmt, arrow *ast.UnaryExpr) {
+	names := f.newNames(it)
+	if channel, ok := under(f.typeOf(arrow.X)).(*types.Chan); ok && names != nil {
+		if shape := f.shapeOf(channel.Elem(), it); len(shape.leaves()) == 1 {
+			from := f.value(arrow.X)
+			var own []string
+			for at, object := range names {
+				known := &binding{shape: []Shape{shape, Truth{}}[at], names: []string{f.name(object.Name())}}
+				f.bound[object], own = known, append(own, known.names...)
+			}
+			f.emit(commas(own) + " := <-" + from.within(unary))
+			return
+		}
+	}
+	value, open := f.receive(arrow.X, true)
+	f.assignAll(it, it.Lhs, []Value{value, single(Truth{}, open, false)})
+}
+
+// newNames are the variables that a definition declares, if all its names are new and none is shared.
+func (f *function) newNames(it *ast.AssignStmt) []types.Object {
+	var found []types.Object
+	for _, e := range it.Lhs {
+		name, ok := e.(*ast.Ident)
+		if !ok || it.Tok != token.DEFINE || f.src.Info.Defs[name] == nil || f.isShared(f.src.Info.Defs[name], f.options.SharesLoops) {
+			return nil
+		}
+		found = append(found, f.src.Info.Defs[name])
+	}
+	return found
+}
+
+// alias binds a name to a function that it always stands for; nothing is written.
+func (f *function) alias(it *ast.AssignStmt) bool {
+	if it.Tok != token.DEFINE || len(it.Lhs) != 1 || len(it.Rhs) != 1 {
+		return false
+	}
+	name, ok := it.Lhs[0].(*ast.Ident)
+	if !ok || f.src.Info.Defs[name] == nil {
+		return false
+	}
+	object := f.src.Info.Defs[name]
+	if _, ok := under(object.Type()).(*types.Signature); !ok || f.assigned[object] {
+		return false
+	}
+	value := f.value(it.Rhs[0])
+	f.bound[object] = &binding{shape: value.Shape, names: value.Code}
+	return true
+}
+
+// assignAll assigns values to what stands on the left, and declares what is new there.
+func (f *function) assignAll(it *ast.AssignStmt, to []ast.Expr, values []Value) {
+	if len(to) != len(values) {
+		f.refuse(it, "results", "this assignment is not carried", "")
+	}
+	if it.Tok == token.DEFINE {
+		f.define(it, to, values)
+		return
+	}
+	var places []place
+	for at, e := range to {
+		if name, ok := e.(*ast.Ident); ok && name.Name == "_" {
+			places = append(places, place{})
+			continue
+		}
+		before := len(f.instance.pieces)
+		places = append(places, f.place(e))
+		if len(f.instance.pieces) > before {
+			for n := range values {
+				if values[n].Acts && n >= at {
+					f.refuse(it, "arrays", "an index that is looked up beside this value is not carried", "put the value into a variable first")
+				}
+			}
+		}
+	}
+	f.storeAll(places, values, it)
+}
+
+// define declares names. Those that are new and not shared stand in one definition.
+func (f *function) define(it *ast.AssignStmt, to []ast.Expr, values []Value) {
+	isPlain := true
+	for at, e := range to {
+		object := f.src.Info.Defs[e.(*ast.Ident)]
+		isPlain = isPlain && object != nil && !f.isShared(object, f.options.SharesLoops) && len(values[at].Code) > 0
+	}
+	if isPlain && len(to) > 1 {
+		var names, codes []string
+		for at, e := range to {
+			object := f.src.Info.Defs[e.(*ast.Ident)]
+			value := f.fitVariable(values[at], object, e)
+			own := f.leafNames(object.Name(), value.Shape)
+			f.bound[object] = &binding{shape: value.Shape, names: own}
+			names, codes = append(names, own...), append(codes, value.Code...)
+		}
+		f.emit(commas(names) + " := " + commas(codes))
+		return
+	}
+	if len(to) > 1 {
+		for at := range values {
+			if values[at].Acts && at+1 < len(values) {
+				values[at] = f.spill(values[at], "value")
+			}
+		}
+	}
+	for at, e := range to {
+		name := e.(*ast.Ident)
+		object := f.src.Info.Defs[name]
+		switch {
+		case object != nil:
+			f.declare(e, f.fitVariable(values[at], object, e))
+		case name.Name == "_":
+			f.declare(e, values[at])
+		default:
+			f.store(f.place(e), values[at], it)
+		}
+	}
+}
+
+// update is `x op= y`.
+func (f *function) update(node ast.Node, to ast.Expr, op token.Token, value Value, written string) {
+	before := len(f.instance.pieces)
+	where := f.place(to)
+	if len(f.instance.pieces) > before && value.Acts {
+		f.refuse(node, "arrays", "an index that is looked up beside this value is not carried", "put the value into a variable first")
+	}
+	if text, ok := where.shape.(Num); !ok || text.Text != Plain {
+		f.refuse(node, "texts", "texts that are put together while the program runs are not carried", "print the parts one after another")
+	}
+	if !where.cells[0] {
+		code := where.code[0] + " " + written + " " + value.one()
+		if written == "++" || written == "--" {
+			code = where.code[0] + written
+		}
+		f.emit(code)
+		return
+	}
+	f.store(where, f.joined(op, where.shape, f.read(where), value), node)
+}
+
+// starts is `go f(..)`.
+func (f *function) starts(it *ast.GoStmt) {
+	to := f.later(it.Call)
+	f.emit("go " + to)
+}
+
+// later is a call as the language starts it: of a function with its arguments.
+func (f *function) later(call *ast.CallExpr) string {
+	fun := unparen(call.Fun)
+	if selector, ok := fun.(*ast.SelectorExpr); ok {
+		if choice := f.src.Info.Selections[selector]; choice != nil && choice.Kind() == types.MethodVal {
+			if known := f.declared[choice.Obj()]; known != nil {
+				receiver := f.receiver(selector, known.sign.Recv().Type(), choice)
+				values := f.fitAll(call, known.sign, f.arguments(call.Args), call.Ellipsis != token.NoPos)
+				return f.started(f.prepare(call, Value{Shape: Func{Body: known}}, &receiver, values))
+			}
+		}
+		if f.src.Info.Selections[selector] != nil || f.src.Info.Uses[selector.Sel].Pkg() != f.src.Pkg {
+			return f.tail(call)
+		}
+	}
+	if name, ok := fun.(*ast.Ident); ok {
+		if _, ok := f.object(name).(*types.Builtin); ok {
+			return f.tail(call)
+		}
+	}
+	called := f.function(fun)
+	if _, ok := isTool(called.Shape); ok {
+		return f.tail(call)
+	}
+	sign := called.Shape.(Func).Body.sign
+	values := f.fitAll(call, sign, f.arguments(call.Args), call.Ellipsis != token.NoPos)
+	return f.started(f.prepare(call, called, nil, values))
+}
+
+func (f *function) started(to callee) string {
+	var leaves []Leaf
+	for _, shape := range to.instance.results {
+		leaves = append(leaves, shape.leaves()...)
+	}
+	code := to.code
+	if len(leaves) > 1 {
+		code = append(append([]string{}, code...), f.channelsFor(leaves)...)
+	}
+	return to.instance.name + "(" + commas(code) + ")"
+}
+
+// tail is a call of a known package that is one call of the language.
+func (f *function) tail(call *ast.CallExpr) string {
+	before := len(f.instance.pieces)
+	f.call(call)
+	after := f.instance.pieces[before:]
+	if len(after) != 1 || !strings.HasSuffix(after[0].text, ")") || after[0].kind != plainPiece || strings.HasPrefix(after[0].text, "println") || strings.HasPrefix(after[0].text, "close") {
+		f.instance.pieces = f.instance.pieces[:before]
+		f.refuse(call, "go", "a goroutine that only does this is not carried", "write a function around it")
+	}
+	code := after[0].text
+	f.instance.pieces = f.instance.pieces[:before]
+	return code
+}

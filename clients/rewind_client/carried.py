@@ -1,0 +1,102 @@
+"""Real Go: what `rewind-carry` makes of a source that Rewind refuses."""
+from __future__ import annotations
+
+import json
+import os
+import shutil
+import subprocess
+from typing import Any, NamedTuple, Optional
+
+from .errors import SourceRefused
+from .finding import REPOSITORY, is_program
+from .program import Program
+
+SECONDS = 20
+LEFT, CHANGED = "left", "changed"
+# What Go itself says against a source is no obstacle of carrying.
+OF_GO = frozenset(("go", "syntax"))
+
+
+class CarriedProgram(Program):
+    """A program that was carried over. The text of a line is that of the source, where the line comes from there."""
+
+    def __init__(self, told: dict[str, Any], source: bytes, path: str) -> None:
+        super().__init__(told["text"].encode("utf-8"), path)
+        self.written = source
+        self.source_lines = source.decode("utf-8", "replace").split("\n")
+        self.sources: dict[int, int] = {}
+        self.places: dict[int, int] = {}
+        for place in told["places"]:
+            self.sources.setdefault(place["line"], place["source"])
+            self.places.setdefault(place["source"], place["line"])
+        self.changes = sum(note["kind"] == CHANGED for note in told["notes"])
+
+    def line(self, number: int) -> str:
+        """The text of a line; that of a function that stands elsewhere in the source tells its line there."""
+        source = self.sources.get(number)
+        if source is None:
+            return super().line(number)
+        text = " ".join(self.source_lines[source - 1].split())
+        return text if source == number else f"{text} (line {source})"
+
+    def shown(self, line: int) -> int:
+        return self.sources.get(line, line)
+
+    def statement_at(self, line: int) -> Optional[int]:
+        """The line on which a statement of this line of the source begins, or of the next one."""
+        last = len(self.source_lines)
+        found = next((self.places[it] for it in range(line, last + 1) if self.places.get(it) in self.statements), None)
+        return found if found or line <= last else super().statement_at(line)
+
+    def told(self) -> str:
+        """One line that says what was done."""
+        name = os.path.basename(self.path)
+        changed = "" if not self.changes else f", in {self.changes} {'place' if self.changes == 1 else 'places'} with a change of meaning"
+        return f"{name} is Go that was carried over{changed}: 'rewind-carry {name}' tells what became of it"
+
+
+class Carrying(NamedTuple):
+    """A program that was carried over, or what stands against that, a line each."""
+
+    program: Optional[CarriedProgram]
+    left: tuple[str, ...] = ()
+
+
+def find_carry() -> Optional[str]:
+    """The `rewind-carry` to take: that of `$REWIND_CARRY`, the one in bin of the repository, or the one on the path."""
+    named = os.environ.get("REWIND_CARRY")
+    if named is not None:
+        return named if is_program(named) else None
+    beside = os.path.join(REPOSITORY, "bin", "rewind-carry")
+    return beside if is_program(beside) else shutil.which("rewind-carry")
+
+
+def carry(path: str, name: str = "") -> Optional[Carrying]:
+    """Carries a source over, which the user calls `name`; nothing where no `rewind-carry` is there, or it does not know the source."""
+    tool = find_carry()
+    try:
+        with open(path, "rb") as file:
+            source = file.read()
+        done = subprocess.run([tool or "", path, "--json"], capture_output=True, timeout=SECONDS, check=False)
+        told = json.loads(done.stdout)
+    except (OSError, ValueError, subprocess.SubprocessError):
+        return None
+    if told["carried"]:
+        return Carrying(CarriedProgram(told, source, name or path))
+    notes = [note for note in told["notes"] if note["kind"] == LEFT]
+    if any(note["rule"] in OF_GO for note in notes):
+        return None
+    return Carrying(None, tuple(obstacle(note) for note in notes))
+
+
+def left_of(refused: SourceRefused) -> list[str]:
+    """What is told of the places that are not carried over, where there are some."""
+    if not refused.left:
+        return []
+    heading = "As Go it cannot be carried over whole. These places are not carried:"
+    return [heading, *(f"  {line}" for line in refused.left)]
+
+
+def obstacle(note: dict[str, Any]) -> str:
+    advice = f"; {note['advice']}" if note.get("advice") else ""
+    return f"{note['line']}:{note['column']}: {note['what']}{advice}"
