@@ -29,10 +29,14 @@ class MalformedReply(ProcessError):
 
 
 class SourceRefused(RewindError):
-    """The source is refused: `line` and `column` count from 1, and are 0 where the refusal has no place."""
+    """The source is refused: `line` and `column` count from 1, and are 0 where the refusal has no place.
 
-    def __init__(self, sentence: str, code: str, line: int, column: int) -> None:
+    `left` are all places of the source that are not carried over, where that was tried.
+    """
+
+    def __init__(self, sentence: str, code: str, line: int, column: int, left: tuple[str, ...] = ()) -> None:
         super().__init__(sentence)
+        self.left = left
         self.code = code
         self.line = line
         self.column = column

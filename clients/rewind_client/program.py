@@ -27,6 +27,8 @@ class Program:
         walk = Walk(found)
         self.path = path
         self.bytes = text
+        # What the file has; another text where the program was carried over from it.
+        self.written = text
         self.text = text.decode("utf-8", "replace")
         self.lines: list[str] = self.text.split("\n")
         self.functions: dict[str, Function] = walk.functions
@@ -38,6 +40,10 @@ class Program:
     def line(self, number: int) -> str:
         """The text of a line with single spaces in it; an empty text where there is no such line."""
         return " ".join(self.lines[number - 1].split()) if 0 < number <= len(self.lines) else ""
+
+    def shown(self, line: int) -> int:
+        """The line of the file that a line of the program stands for."""
+        return line
 
     def statement_at(self, line: int) -> Optional[int]:
         """The line, or the next one, on which a statement begins; none where no statement comes after it."""

@@ -33,6 +33,6 @@ class Source:
         """Whether the file has another text now, or can't be read any more."""
         try:
             with open(self.program.path, "rb") as file:
-                return file.read() != self.program.bytes
+                return file.read() != self.program.written
         except OSError:
             return True

@@ -20,10 +20,14 @@ MOST_ASKED = 200
 
 
 class Change(NamedTuple):
-    """What a step did to a channel, and whose wait it ended, or an empty text."""
+    """What a step did to a channel, and whose wait it ended, or an empty text.
+
+    It is unsure where the wait was that of a select, which leaves the queues of all its channels.
+    """
 
     verb: Verb
     woken: str
+    is_sure: bool = True
 
 
 class Transfers:
@@ -48,7 +52,7 @@ class Transfers:
                 self.keep(note.channel, note.step, note.kind, note.verb or Verb.SEND, note.woke[0] if note.woke else "")
             changes = found.get(note.step, ())
             for channel, change in changes:
-                if len(changes) > 1:
+                if len(changes) > 1 or not change.is_sure:
                     self.forget(channel)
                 else:
                     self.keep(channel, note.step, note.kind, change.verb, last.get(change.woken, ""))
@@ -114,12 +118,17 @@ def change_of(verb: Verb, before: Channel, after: Channel) -> Optional[Change]:
     if len(after.items) != len(before.items):
         return Change(verb, "")
     if verb is Verb.SEND and is_first_gone(before.receivers, after.receivers):
-        return Change(Verb.SEND, before.receivers[0].goroutine)
+        return met(verb, before.receivers[0])
     if verb is Verb.RECEIVE and is_first_gone(before.senders, after.senders):
         first = before.senders[0]
         is_rotated = not before.capacity or after.items == (*before.items[1:], first.value)
-        return Change(Verb.RECEIVE, first.goroutine) if is_rotated else None
+        return met(verb, first) if is_rotated else None
     return None
+
+
+def met(verb: Verb, first: Waiter) -> Change:
+    """What a step did that ended the wait of the first in a queue."""
+    return Change(verb, first.goroutine, not first.clause)
 
 
 def is_first_gone(before: Sequence[Waiter], after: Sequence[Waiter]) -> bool:

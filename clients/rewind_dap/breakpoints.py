@@ -119,8 +119,9 @@ class Breakpoints:
         return self.placed(wish.number, line, place)
 
     def placed(self, number: int, line: int, place: int) -> Body:
-        body: Body = {"id": number, "verified": True, "line": place + self.first_line - 1}
-        return body if place == line else {**body, "message": "Moved to the next line on which a statement begins"}
+        shown = self.session.program.shown(place)
+        body: Body = {"id": number, "verified": True, "line": shown + self.first_line - 1}
+        return body if line in (place, shown) else {**body, "message": "Moved to the next line on which a statement begins"}
 
     def refused(self, line: int, why: str) -> Body:
         return {"id": self.next_number(), "verified": False, "line": line + self.first_line - 1, "message": why}

@@ -2,6 +2,7 @@
 from __future__ import annotations
 
 
+from rewind_client.carried import CarriedProgram, left_of
 from rewind_client.errors import RewindError, SourceRefused
 from rewind_client.program import read_program
 from rewind_client.refusals import explain_refusal
@@ -41,7 +42,10 @@ class Lives(Handlers):
     def session_of(self, launch: Launch) -> Session:
         """A session on the program of a launch; of a refused source the console gets the line with a mark besides."""
         try:
-            return start(launch, self.adapter.transport.closed.is_set, self.adapter.journal)
+            session = start(launch, self.adapter.transport.closed.is_set, self.adapter.journal)
+            if isinstance(session.program, CarriedProgram):
+                self.adapter.say("console", session.program.told())
+            return session
         except SourceRefused as refusal:
             raise self.told_refusal(launch.path, refusal) from None
 
@@ -55,6 +59,8 @@ class Lives(Handlers):
         shift = (self.adapter.first_line - 1, self.adapter.first_column - 1)
         place = {"source": described(path), "line": refusal.line + shift[0], "column": refusal.column + shift[1]}
         self.adapter.say("stderr", f"{found.text(path)} ({refusal.code})", place if refusal.line else None)
+        for line in left_of(refusal):
+            self.adapter.say("stderr", line)
         sentence = found.text(path).split("\n")[0]
         instead = f"; write instead: {found.instead}" if found.instead else ""
         return BadRequest(f"{sentence}{instead} ({refusal.code})")

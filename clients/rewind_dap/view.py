@@ -139,7 +139,7 @@ class View:
         self.frames[number] = place
         body: Body = {"id": number, "name": name, "line": 0, "column": 0, "presentationHint": hint}
         if line:
-            body.update({"line": line + self.first_line - 1, "column": self.first_column, "source": self.described})
+            body.update({"line": self.session.program.shown(line) + self.first_line - 1, "column": self.first_column, "source": self.described})
         return body
 
     def place(self, number: int) -> FramePlace:

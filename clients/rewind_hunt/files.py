@@ -22,6 +22,14 @@ class File(NamedTuple):
     name: str
     path: str
 
+    def replace(self, text: bytes) -> None:
+        """Gives the processes another text to read."""
+        try:
+            with open(self.path, "wb") as copy:
+                copy.write(text)
+        except OSError as fault:
+            raise RewindError(f"a copy of {self.name} cannot be written: {fault.strerror}") from None
+
 
 @contextmanager
 def readable(name: str) -> Iterator[File]:

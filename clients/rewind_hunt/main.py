@@ -5,8 +5,10 @@ import sys
 from collections.abc import Iterable
 from typing import Optional, TextIO
 
+from rewind_client.carried import left_of
 from rewind_client.errors import RewindError, SourceRefused
-from rewind_client.program import read_program
+from rewind_client.opening import carried_over
+from rewind_client.program import Program, read_program
 from rewind_client.refusals import explain_refusal
 from rewind_client.versions import version_of
 from rewind_shell.saving import write_script
@@ -56,7 +58,8 @@ def in_file(given: Wanted, name: str, number: int) -> int:
                 return Teller(given, file).status()
             except SourceRefused as refused:
                 text = read_program(file.path).bytes.decode("utf-8", "surrogateescape")
-                print(explain_refusal(text, refused.code, refused.line, refused.column).text(file.name), file=sys.stderr)
+                told = explain_refusal(text, refused.code, refused.line, refused.column).text(file.name)
+                print("\n".join([told, *left_of(refused)]), file=sys.stderr)
     except RewindError as fault:
         return failed(str(fault))
     return FAULT
@@ -68,8 +71,18 @@ class Teller:
     def __init__(self, given: Wanted, file: File) -> None:
         self.given = given
         self.plan = given.plan(file)
-        self.program = read_program(file.path)
-        self.plan.begin().process.end()
+        self.program = self.accepted(file)
+
+    def accepted(self, file: File) -> Program:
+        """The program, or that to which it is carried over, which then takes its place in the file."""
+        try:
+            self.plan.begin().process.end()
+            return read_program(file.path)
+        except SourceRefused as refused:
+            program = carried_over(file.path, file.name, refused)
+        file.replace(program.bytes)
+        print(f"rewind-hunt: {program.told()}", file=sys.stderr)
+        return program
 
     def status(self) -> int:
         """Tells all of it: the exit status."""

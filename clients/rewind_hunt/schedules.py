@@ -21,6 +21,8 @@ FIRST_PORTION = 16
 PORTION = 48
 BURST = 16
 MEAN_BURST = 6
+# Of each goroutine so many that it may start within a portion have commands in it.
+NEXT_CHILDREN = 3
 # The ranks of a schedule change within so many steps, if they do.
 FIRST_CHANGES = 200
 # A process is started anew before its journal, which takes 2,000,000 commands, is full.
@@ -88,7 +90,7 @@ class Schedule:
 
     def next_children(self) -> list[str]:
         """The goroutines that may be started next: a command for one is refused until it is there."""
-        return [child_of(name, self.started.get(name, 0) + 1) for name in self.live]
+        return [child_of(name, self.started.get(name, 0) + more) for name in self.live for more in range(1, NEXT_CHILDREN + 1)]
 
 
 class Scheduler:

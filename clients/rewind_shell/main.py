@@ -138,8 +138,8 @@ def take_saved(shell: Shell, script: Optional[str]) -> None:
     """Takes the commands of a script; without one those that the page has written behind the source."""
     if script:
         shell.load_file(script)
-    elif COMMANDS in shell.program.bytes:
-        shell.take(saved_in(shell.program.bytes).commands, shell.path)
+    elif COMMANDS in shell.program.written:
+        shell.take(saved_in(shell.program.written).commands, shell.path)
 
 
 def obey_next(shell: Shell, reader: Reader, before: str, is_terminal: bool) -> str:

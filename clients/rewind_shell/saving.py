@@ -111,7 +111,7 @@ def write_script(path: str, commands: Sequence[str], program: Program) -> None:
 def heading(program: Program) -> str:
     """The first line of a script: the file of the source, and the SHA-256 of its text."""
     name = CONTROL.sub("?", os.path.basename(program.path))
-    return f"{HEADING} {name}, SHA-256 {digest(source_part(program.bytes))}"
+    return f"{HEADING} {name}, SHA-256 {digest(source_part(program.written))}"
 
 
 def digest(text: bytes) -> str:
@@ -131,7 +131,7 @@ class Saved(NamedTuple):
 
     def is_of(self, program: Program) -> bool:
         """Whether the script may be one of a program."""
-        return not self.source or self.source == digest(source_part(program.bytes))
+        return not self.source or self.source == digest(source_part(program.written))
 
 
 def saved_in(text: bytes) -> Saved:

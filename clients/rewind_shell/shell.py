@@ -7,6 +7,7 @@ from typing import Optional
 from rewind_client.breakpoints import Breakpoints, NoPlace
 from rewind_client.core import MOVING as MOVING_WORDS
 from rewind_client.core import Refused, with_plain_blanks, words_of
+from rewind_client.carried import CarriedProgram, left_of
 from rewind_client.errors import Cancelled, ProcessError, RewindError, SourceRefused
 from rewind_client.explanations import Standing, standing_of
 from rewind_client.finding import Settings, explained
@@ -59,6 +60,8 @@ class Shell:
         """Begins the program, with nothing taken."""
         settings = Settings(cancelled=self.interrupts.gives_up, journal=self.script.note)
         self.session = open_session(self.rewind, self.path, settings)
+        if isinstance(self.session.program, CarriedProgram):
+            self.screen.say(self.session.program.told(), "note")
         self.chosen = "g0"
         self.printed: Optional[list[str]] = []
 
@@ -320,7 +323,7 @@ def refusal_in_words(path: str, refused: SourceRefused) -> str:
         told = explain_refusal(read_program(path).text, refused.code, refused.line, refused.column)
     except RewindError:
         return str(refused)
-    return f"{told.text(path)}\nmore: rewind --explain {refused.code}"
+    return "\n".join([told.text(path), f"more: rewind --explain {refused.code}", *left_of(refused)])
 
 
 def is_for_rewind(words: Sequence[str]) -> bool:
