@@ -14,7 +14,7 @@ RT = $(if $(HAS_RT),rt,$(error rewind: 'rt' is not on the path: install the Ratt
 NEEDS_RT = @: $(RT)
 
 .DEFAULT_GOAL := $(if $(HAS_RT),all,help)
-.PHONY: all help quick quick-page demo test lint gate prove edits words command-line-test bench replay second-opinion beside-go hostile times \
+.PHONY: all help quick quick-page demo test lint gate prove edits words command-line-test bench replay second-opinion beside-go carry carry-page carry-beside-go hostile times \
 	gate-times make-times slowest stalls faces dap-test page page-test page-lint vsix dist quick-dist dist-check release-check release-test \
 	bare-debian page-pictures install uninstall clean
 
@@ -141,6 +141,24 @@ second-opinion: $(REWIND) ## random sessions, answered by a plain model too (10 
 faces: $(REWIND) ## what page, shell and adapter say of all programs and of 2,000 random ones, compared (10 minutes on four processors)
 	$(PYTEST) --full tests/test_faces.py
 
+carry: bin/rewind-carry ## what carries real Go over: bin/rewind-carry (a few seconds; needs go)
+
+CARRY_SOURCES := carry/go.mod $(wildcard carry/*.go carry/*/*.go carry/source/stubs/*)
+
+bin/rewind-carry: $(CARRY_SOURCES)
+	@command -v go >/dev/null || tools/packages.sh golang-go
+	cd carry && CGO_ENABLED=0 go build -trimpath -ldflags='-s -w' -o ../bin/rewind-carry .
+
+carry-page: bin/rewind-carry.js ## the same for the page, which loads it from beside itself: bin/rewind-carry.js (half a minute; needs go)
+
+bin/rewind-carry.js: $(CARRY_SOURCES) tools/build/carry_page.py
+	@command -v go >/dev/null || tools/packages.sh golang-go
+	cd carry && GOOS=js GOARCH=wasm go build -trimpath -ldflags='-s -w' -o ../bin/rewind-carry.wasm ./wasm
+	tools/build/carry_page.py bin/rewind-carry.wasm $@
+
+carry-beside-go: $(REWIND) carry ## programs of carry/testdata, carried over and run by Go: no other outcome (10 minutes; needs go)
+	$(PYTEST) --full tests/test_carry.py
+
 beside-go: $(REWIND) ## programs as Go runs them: some schedule of the rules comes to each outcome (2 minutes; needs go)
 	$(PYTEST) --full tests/test_beside_go.py
 
@@ -149,7 +167,7 @@ dap-test: $(REWIND) ## the adapter for editors, and their set-ups (2 minutes)
 
 IS_QUICK = $(filter rewind-quick,$(notdir $(REWIND)))
 
-page-test: browser-needs other-browsers $(if $(IS_QUICK),quick-page,page) ## the page: types, style, modules, all of it in Chromium, and sessions in Firefox and WebKitGTK (5 minutes)
+page-test: browser-needs other-browsers carry-page $(if $(IS_QUICK),quick-page,page) ## the page: types, style, modules, all of it in Chromium, and sessions in Firefox and WebKitGTK (5 minutes)
 	page/test.sh bin/rewind$(if $(IS_QUICK),-quick).html
 
 page-lint: ## types and style of the page, its tests and the extension for VS Code (10 seconds)

@@ -32,12 +32,13 @@ def pytest_addoption(parser: pytest.Parser) -> None:
 
 
 def pytest_configure(config: pytest.Config) -> None:
-    """The clients find the program by the environment, as a user may name it."""
+    """The clients find the program by the environment, as a user may name it. They carry no source over, unless a test asks for it."""
     named = config.getoption("--rewind") or os.environ.get("REWIND") or TOP / "bin" / "rewind-quick"
     program = os.path.abspath(named)
     if not os.access(program, os.X_OK) or os.path.isdir(program):
         raise pytest.UsageError(f"there is no program {named}: build it with 'make quick'")
     os.environ["REWIND"] = program
+    os.environ["REWIND_CARRY"] = ""
 
 
 def is_left_out(config: pytest.Config, item: pytest.Item) -> bool:

@@ -1,6 +1,7 @@
 #!/bin/sh
-# lint.sh [PART..]: checks style and types: flake8 and `mypy --strict` over all Python, shellcheck over all scripts for the shell, and tsc
-# and eslint over the page. The parts are flake8, mypy, shellcheck and page; with none named, all of them.
+# lint.sh [PART..]: checks style and types: flake8 and `mypy --strict` over all Python, shellcheck over all scripts for the shell, tsc and
+# eslint over the page, gofmt and `go vet` over what carries Go over. The parts are flake8, mypy, shellcheck, page and go; with none
+# named, all of them.
 set -eu
 top=$(cd "$(dirname "$0")/.." && pwd)
 cd "$top"
@@ -24,14 +25,20 @@ lint() {
       page/needs.sh nodejs node-typescript eslint
       page/lint.sh
       ;;
+    go)
+      command -v go >/dev/null || tools/packages.sh golang-go
+      badly=$(gofmt -l carry)
+      [ -z "$badly" ] || { echo "gofmt would change $badly"; exit 1; }
+      (cd carry && go vet ./...)
+      ;;
     *)
-      echo "rewind: lint has the parts flake8, mypy, shellcheck and page" >&2
+      echo "rewind: lint has the parts flake8, mypy, shellcheck, page and go" >&2
       exit 2
       ;;
   esac
 }
 
-[ $# -gt 0 ] || set -- flake8 mypy shellcheck page
+[ $# -gt 0 ] || set -- flake8 mypy shellcheck page go
 status=0
 for part; do
   (lint "$part") || status=1

@@ -1,6 +1,6 @@
 """Beside Go: what a program does when Go runs it, some schedule of the rules does too.
 
-Each program of tests/go, clients/examples, crates/sessions/data and bench/programs is built by `go build` once and run 200 times, on
+Each program of tests/go, examples, crates/sessions/data and bench/programs is built by `go build` once and run 200 times, on
 one, two and all processors in turn. A run's outcome is its lines, and how it ended: by the end of `main`, by a panic with its text, or
 because all goroutines are asleep. Its exit status must be Go's for that. Then random schedules are taken, as `rewind-hunt` does, until
 each outcome of Go is met. An outcome that 200,000 schedules do not meet in time is a failure. The short form takes 20 runs of the
@@ -37,7 +37,7 @@ from rewind_hunt.schedules import End, Scheduler
 from support.forms import short_first
 from support.places import TOP
 
-FOLDERS = ("clients/examples", "crates/sessions/data", "bench/programs")
+FOLDERS = ("examples", "crates/sessions/data", "bench/programs")
 # A schedule or a round robin of more steps is too long to be met by chance.
 MOST_STEPS = 3000
 LIMITS = ("CallDepth", "NameDepth", "NameCount")

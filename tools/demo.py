@@ -1,12 +1,11 @@
 #!/usr/bin/env python3
 """Shows a deadlock, the step behind it, and the same program without it: the source, and each command with its reply.
 
-    python3 -m tools.demo [--check] PROGRAM      (--check only says whether the program replies as tools/demo.txt has it)
+    python3 -m tools.demo PROGRAM
 """
 import argparse
 import os
 import subprocess
-import sys
 from collections.abc import Iterator
 
 from tools import kit
@@ -60,28 +59,23 @@ def tell(program: str) -> Iterator[str]:
             yield line
 
 
-def check(program: str) -> int:
-    """Says whether the story stands as the program tells it, and returns the exit status."""
+def difference(program: str) -> str:
+    """The first line that tools/demo.txt and the program give differently; an empty text where there is none."""
     wanted = [line for line in lines_of(STORY) if line.startswith("> ") or is_reply(line)]
     got = [line for line in tell(program) if line.startswith("> ") or is_reply(line)]
-    differ = [(old, new) for old, new in zip([*wanted, ""], [*got, ""]) if old != new]
-    for old, new in differ[:1]:
-        print(f"FAILED demo: tools/demo.txt has '{old}', the program gives '{new}'")
-    print(f"{0 if differ else 1} passed, {1 if differ else 0} failed")
-    return 1 if differ else 0
+    differ = (f"tools/demo.txt has '{old}', the program gives '{new}'" for old, new in zip([*wanted, ""], [*got, ""]) if old != new)
+    return next(differ, "")
 
 
 def main() -> None:
     parser = argparse.ArgumentParser(description="Shows a deadlock, the step behind it, and the same program without it.")
-    parser.add_argument("--check", action="store_true", help="only say whether the program replies as tools/demo.txt has it")
     parser.add_argument("program")
     asked = parser.parse_args()
     if not os.access(asked.program, os.X_OK):
         kit.stop(f"there is no program {asked.program}")
-    if asked.check:
-        sys.exit(check(asked.program))
     print("\n".join(tell(asked.program)))
     print(END.format(program=asked.program))
 
 
-main()
+if __name__ == "__main__":
+    main()

@@ -18,7 +18,7 @@ MAP = "docs/ARCHITECTURE.md"
 ENDINGS = {"src": ".rt", "specs": ".antt"}
 CRATES = r"crates/(?!sessions/).*\.(rt|antt)"
 TEXTS = r".*\.(py|js|mjs|json|txt|script|go)"
-AROUND = r"(words|tests(?!/documents/recipes)|clients(?!/tests/refused|/examples)|page/src|page/test|editors)/" + TEXTS
+AROUND = r"(words|tests(?!/documents/recipes)|clients(?!/tests/refused)|page/src|page/test|editors)/" + TEXTS
 DOCUMENTS = r"docs/(COMMANDS|LANGUAGE|STEPS)\.md"
 
 
@@ -32,7 +32,7 @@ class Sample:
 
 SAMPLES = (
     Sample("A command or a query", (
-        (CRATES, r"Command::Text\b|commands\.Text\b|\"text\"|\(Text [(g]|\bText, Console\b|text_said|\btext\(alloc|showing\.text\b"),
+        (CRATES, r"Command::Text\b|commands\.Text\b|\"text\"|\(Text [(g]|\bText, Console\b|text_said|\btext\(alloc|showing\.text\b|\bshow, text\}"),
         (AROUND, r"\btext G\b|[\"'`]text (?:\$\{|\")|\b(?:show|chan)\", ?\"text\"|\bchan text\b|rf\"text |^text g0"),
         (AROUND, r"\"text\"[:,] \"(?:no Q2|bt|g0)\""),
         (r"crates/sessions/data/.*\.script", r"^text g0"),

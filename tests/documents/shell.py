@@ -23,9 +23,11 @@ RUN = {"cat", "printf", "echo", "grep", "head", "tail", "diff", "wc", "sort", HU
 TIMING = re.compile(r"in [0-9]+\.[0-9] seconds$")
 # Commands that change the machine or want a person: only the files that they name are looked for.
 NAMED = set(
-    "apt apt-get cd chmod code cp curl docker emacs export git hx install ln ls man mkdir mv nvim python3 rlwrap rm rt "
+    "apt apt-get bin/rewind-carry cd chmod code cp curl docker emacs export git hx install ln ls man mkdir mv nvim python3 rlwrap rm rt "
     "sha256sum sudo tar tee unzip wget xdg-open".split()
 )
+# Folders of the archive of a release, and where their files stand in the repository.
+ARCHIVE = {"bin": "clients", "examples": repository.SESSIONS}
 # What the words of a form of the command line stand for.
 EXAMPLE = f"{repository.SESSIONS}/deadlock.go"
 STANDING = {"FILE": EXAMPLE, "N": "2", "CODE": "N1"}
@@ -66,9 +68,9 @@ def is_file(name: str) -> bool:
 
 
 def is_of_archive(name: str) -> bool:
-    """Whether a path is one of the clients as the archive of a release has them."""
-    folder, _, client = name.rpartition("/")
-    return folder == "bin" and is_file(f"clients/{client}")
+    """Whether a path is one of the archive of a release, which has the clients and example sessions in folders of its own."""
+    folder, _, file = name.rpartition("/")
+    return folder in ARCHIVE and is_file(f"{ARCHIVE[folder]}/{file}")
 
 
 def is_known(name: str) -> bool:
@@ -104,7 +106,7 @@ def check_files(checks: Checks, place: str, words: list[str]) -> None:
         bare = re.sub(r"^(REPOSITORY/|\./)", "", name)
         inside = bare != name or "/" in name
         if inside and bare.split("/")[0] in tops and not repository.is_made(bare):
-            checks.holds(place, is_file(bare), f"there is no {bare}")
+            checks.holds(place, is_file(bare) or is_of_archive(bare), f"there is no {bare}")
 
 
 def alternatives(words: list[str]) -> list[list[str]]:

@@ -131,12 +131,18 @@ class Claims:
         return any(line.endswith(" select-wait") for line in self.core.ask("log")[:-1])
 
     def changes(self, channel: str, step: str) -> bool:
-        """Whether the channel is another one without the step."""
-        before = self.core.ask(f"chan {channel}")
+        """Whether the channel is another one without the step, or others wait for it, or by other steps."""
+        before = self.standing(channel)
         self.core.ask(f"back {step}")
-        after = self.core.ask(f"chan {channel}")
+        after = self.standing(channel)
         self.core.ask("redo")
         return before != after
+
+    def standing(self, channel: str) -> tuple[list[str], list[str]]:
+        """A channel, and the steps by which others wait for it."""
+        last = {line.split(" ")[1].split("#")[0]: line for line in self.core.ask("log")[:-1]}
+        _, senders, receivers = self.queues(channel)
+        return self.core.ask(f"chan {channel}"), [last[re.split("[@=]", it)[0]] for it in (*senders, *receivers)]
 
     def is_last_taken(self, channel: str, step: str) -> bool:
         """Whether the step took the last item of a buffer."""

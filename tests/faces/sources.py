@@ -12,7 +12,7 @@ from pathlib import Path
 
 from support.places import TOP
 
-FOLDERS = ["crates/sessions/data", "clients/examples", "bench/programs", "crates/races/data"]
+FOLDERS = ["crates/sessions/data", "examples", "bench/programs", "crates/races/data"]
 NUMBERS, CARRIERS = "chan int", "chan chan int"
 
 # The variables that are known in a block, each with its type.

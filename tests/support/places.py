@@ -4,4 +4,4 @@ from pathlib import Path
 TOP = Path(__file__).resolve().parents[2]
 SESSIONS = TOP / "crates" / "sessions" / "data"
 CLIENTS = TOP / "clients"
-EXAMPLES = CLIENTS / "examples"
+EXAMPLES = TOP / "examples"
