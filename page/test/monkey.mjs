@@ -85,6 +85,7 @@ function shownInPage() {
     clauses: [...scene.clauses].map(([name, ready]) => [name, ready.map((/** @type {{number: number}} */ { number }) => number)]),
     undone: log.gone.size, printed: log.steps(0, log.length).flatMap((/** @type {{id: string}} */ { id }) => page.note(id)?.printed || []),
     breaks: [...breakpoints].sort(), noted: log.steps(0, log.length).filter((/** @type {{id: string}} */ { id }) => page.note(id)?.edges).length, lost: follower.lost,
+    errors: page.errors,
   };
 }
 
@@ -189,6 +190,7 @@ async function round(hands, t, program, seed, act) {
     const told = await toldNatively(native, shown.goroutines.map((/** @type {any[]} */ [it]) => it), shown.channels.map((/** @type {any[]} */ [it]) => it));
     for (const [key, value] of Object.entries(told)) assert.deepEqual(shown[key], value, key);
     assert.deepEqual([shown.noted, shown.lost], [shown.log.length, ""], "every step has its edges");
+    assert.deepEqual(shown.errors, [], "the page has made no error of its own");
     await listsAgree(hands, native, shown.log, roll);
     await clausesAgree(native, shown);
     const dots = await hands.browser.run("rewind.page.views.editor.breaks");

@@ -30,6 +30,7 @@ async function inBrowser(t, page, { part, hash, open = Browser.open }) {
     await browser.load(page, hash);
     await part(t, browser);
     assert.deepEqual(browser.faults, [], "faults in the page");
+    assert.deepEqual(await browser.run("window.rewind?.page.errors || []"), [], "errors of its own that the page has told");
   } finally {
     await browser.close();
   }

@@ -210,6 +210,7 @@ async function errors(hands) {
     assert.ok(/^This page has made an error of its own: TypeError: a trial\. The session goes on, .* reload the page/.test(await hands.text("#status")), `an error in ${name} is told as one of the page, with what to do`);
     assert.ok(!/session is gone/.test(await hands.text("#transcript")), "and not as the end of the session");
     assert.deepEqual(await hands.ids(), await browser.run("rewind.page.session.user.ask('log').then(({ lines }) => lines.map((line) => line.split(' ')[0]))"), "the page has the steps of the program");
+    assert.deepEqual(await browser.run("rewind.page.errors.splice(0)"), ["TypeError: a trial"], "it is the only error");
     await hands.perform("redo");
     assert.deepEqual([await browser.run("rewind.page.session.log.kinds"), await hands.text("#status")], [await browser.run("rewind.page.session.user.ask('log').then(({ lines }) => lines.map((line) => line.replace(/^\\S+ /, '')))"), "4 steps taken again."], "and goes on");
   }

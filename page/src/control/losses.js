@@ -46,6 +46,7 @@ export const blinded = (page, reason) => page.say(`The session goes on, but its 
  */
 export function erred(page, fault) {
   const { session, isMending } = page;
+  page.errors.push(String(fault));
   const error = `This page has made an error of its own: ${fault}.`;
   page.views.transcript.fault(error);
   page.say(`${error} Reload the page: it keeps your work.`, "bad");

@@ -40,6 +40,8 @@ export class Page {
     this.busy = 0; // how many things are being done
     this.isMoving = false;
     this.isMending = false; // after an error of the page
+    /** @type {string[]} */
+    this.errors = []; // that the page has made
     this.refusedLine = 0; // of the source that was refused last
     this.stamp = 0; // of the state that is shown
     /** @type {import("../waiting/standing.js").Standing | null} */

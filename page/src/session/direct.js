@@ -38,24 +38,25 @@ export class DirectEdges {
     return this.note(id)?.causes || this.known.get(id) || new Map();
   }
 
-  // Finds the edges into these steps, which have notes. A step whose kind touches its own goroutine alone has none.
+  // Finds the edges into these steps, which have notes. A step whose kind touches its own goroutine alone has none. While it asks, steps
+  // may be taken back.
   /** @param {Step[]} steps */
   async find(steps) {
     this.known.clear();
     const open = steps.filter(({ id }) => this.note(id) && !this.note(id)?.edges);
-    const notes = open.map(({ id }) => this.note(id));
+    const notes = new Map(open.map(({ id }) => [id, this.note(id)]));
+    const kept = () => open.filter(({ id }) => this.note(id) === notes.get(id) && this.log.row(id) >= 0).map(({ id }) => this.log.step(this.log.row(id)));
     const resting = open.filter(({ id, kind }) => restsOnOthers(kind, this.log.kindOf(this.log.before(id))));
     await this.askCauses(resting.flatMap(({ id }) => [id, this.log.before(id)]));
     const sources = new Map(resting.map((step) => [step.id, this.newSources(step)]));
-    const last = open.length ? open[open.length - 1].row + 1 : 0;
+    const last = kept().reduce((most, { row }) => Math.max(most, row + 1), 0);
     this.out = last <= FOLLOWED ? outOfBuffers(this.log, this.follower.notes, last) : new Map();
     await this.askCauses([...sources.values()].flat());
-    open.forEach((step, at) => {
-      const note = notes[at];
-      if (!note || this.note(step.id) !== note) return; // the step was taken back meanwhile
+    for (const step of kept()) {
+      const note = /** @type {Note} */ (this.note(step.id));
       note.edges = sources.has(step.id) ? this.into(step, sources.get(step.id) || []) : [];
       this.takeMessage(step, note, sources.get(step.id) || []);
-    });
+    }
   }
 
   // The value that a step received. What ended a wait gave its value to that wait, whose statement it is.

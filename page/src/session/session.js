@@ -156,9 +156,14 @@ export class Session {
     this.log.load(columns);
   }
 
-  // Reads everything anew of the user's own session. What can be done again is not known then.
-  async renew() {
-    await this.turn;
+  // Reads everything anew of the user's own session, between two commands. What can be done again is not known then.
+  renew() {
+    const done = this.turn.then(() => this.mirror.during(() => this.renewNow()));
+    this.turn = done.then(() => {}, () => {});
+    return done;
+  }
+
+  async renewNow() {
     const [columns] = await this.user.questions(["log"], "columns");
     this.log.load(columns);
     this.log.gone.clear();
