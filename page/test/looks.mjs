@@ -52,6 +52,12 @@ function unnamed() {
   return all.filter((it) => !named(it)).map((it) => it.outerHTML.slice(0, 80));
 }
 
+// Runs in the page: buttons and tabs that cut their words off.
+function clippedWords() {
+  const shown = [...document.querySelectorAll("button, [role=tab]")].filter((it) => it.getClientRects().length && !it.closest(".unseen"));
+  return shown.filter((it) => it.scrollWidth > it.clientWidth + 1 || it.getBoundingClientRect().right > window.innerWidth).map(({ textContent }) => textContent);
+}
+
 // Runs in the page: steps whose lines reach out of the picture.
 function clippedLines() {
   const { right } = /** @type {Element} */ (document.getElementById("picture")).getBoundingClientRect();
@@ -90,6 +96,7 @@ async function look(browser, folder, { name, width, height, scheme = "light", me
   assert.deepEqual(await browser.run(`(${unnamed})()`), [], "controls have names");
   assert.ok((await browser.run("document.documentElement.scrollWidth")) <= width, "nothing is wider than the window");
   assert.deepEqual(await browser.run(`(${clippedLines})()`), [], "no line is clipped");
+  if (!paper) assert.deepEqual(await browser.run(`(${clippedWords})()`), [], "no button cuts its words off");
   const is = await browser.run(`(${shapesOf})()`);
   if (process.env.SHAPES === "write") shapes[name] = is;
   else assert.deepEqual(moved(is, shapes[name] || {}), [], "each part stands where it stood");

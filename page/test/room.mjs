@@ -117,6 +117,7 @@ async function emptyPicture(hands) {
   assert.deepEqual(await browser.run("['ghost', 'run-it', 'tell-it'].map((id) => Boolean(document.getElementById(id).getClientRects().length))"), [true, true, true], "an empty picture shows a ghost of what will come, and what to press");
   await hands.click("#run-it");
   assert.deepEqual([await browser.run("document.getElementById('ghost').hidden"), (await hands.ids()).length], [true, 13], "which runs it");
+  assert.equal(await hands.text("#headline strong"), "Panic in g0.1#6 at line 5:", "the words that lead stand out");
   await browser.run("rewind.act(rewind.page, 'own'), 0");
   await hands.idle();
   assert.ok(await browser.run("document.activeElement.closest('.CodeMirror') && rewind.page.views.stories.name === 'program' && !document.getElementById('ghost').hidden"), "a program of one's own has the cursor, and a ghost");

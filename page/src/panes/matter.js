@@ -69,11 +69,11 @@ function chosenText({ pointing: { about, pinned } }) {
   return [make("strong", {}, about.id), " is because of ", causes, ", and with it ", about.consequences === 1 || !about.consequences ? "goes " : "go ", goes, "."];
 }
 
-// A sentence whose first words, up to a colon or a full stop, say what the matter is.
+// A sentence whose first words, up to a colon or a full stop before a blank, say what the matter is.
 /** @param {string} text */
-function led(text) {
-  const [, lead, rest] = /** @type {RegExpExecArray} */ (/^([^:.]*[:.]?)(.*)$/s.exec(text));
-  return [make("strong", {}, lead), rest];
+export function led(text) {
+  const { index } = /[:.](?=\s)|$/.exec(text) || { index: text.length };
+  return [make("strong", {}, text.slice(0, index + 1)), text.slice(index + 1)];
 }
 
 // What is seen: how things stand, or else what the last command came to. What is only said again is not spoken again.

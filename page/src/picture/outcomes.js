@@ -7,6 +7,7 @@ import { stepName } from "../engine/protocol.js";
 const GIVEN = 2; // variables that a line names
 const COUNTED = 20000; // steps of a goroutine up to which it is counted what it started and made
 const VALUE = 24; // letters
+const CORE_NAME = / \(g[\d.]+\/c\d+\)/g; // behind the variable of a channel
 
 /** @typedef {import("./layout.js").Place} Place */
 /** @typedef {{name: string, text: string}} Part */
@@ -139,7 +140,10 @@ export function lineOf(step, note, place) {
   return { number, kind: shortened(statementText(step, note, place), mostStatement), outcome: cut(parts, mostOutcome) };
 }
 
-// Parts that have at most so many letters together, with a blank between two.
+/** @param {Part[]} parts */
+const lettersIn = (parts) => parts.reduce((sum, { text }) => sum + text.length + 1, -1);
+
+// Parts that have at most so many letters together, with a blank between two. Where that is too few, a channel goes by its variable alone.
 /**
  * @param {Part[]} parts
  * @param {number} most
@@ -147,7 +151,8 @@ export function lineOf(step, note, place) {
 function cut(parts, most) {
   let left = most;
   const kept = [];
-  for (const { name, text } of parts) {
+  const fitting = lettersIn(parts) <= most ? parts : parts.map(({ name, text }) => ({ name, text: text.replace(CORE_NAME, "") }));
+  for (const { name, text } of fitting) {
     if (left < 4) break;
     kept.push({ name, text: shortened(text, left) });
     left -= text.length + 1;
@@ -167,7 +172,7 @@ export function lettersOf(place, from, to) {
     const step = place.log.step(place.rows.at(at));
     const { kind, outcome } = lineOf(step, place.notes(step.id), place);
     needed.statement = Math.max(needed.statement, kind.length);
-    needed.outcome = Math.max(needed.outcome, outcome.reduce((sum, { text }) => sum + text.length + 1, 0));
+    needed.outcome = Math.max(needed.outcome, lettersIn(outcome) + 1);
   }
   return needed;
 }

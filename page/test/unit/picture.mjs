@@ -141,3 +141,12 @@ test("what came of a step", () => {
   const told = log.steps(0, 4).map((step) => lineOf(step, notes.get(step.id), place).outcome.map(({ name, text }) => `${name}: ${text}`));
   assert.deepEqual(told, [["received: ← 7", "muted: from c (g0/c1)"], ["given: x0 = 7"], ["waits: waits for c (g0/c1)"], ["given: x0 = 8", "printed: “7”"]]);
 });
+
+test("where a column is short, a channel goes by its variable", () => {
+  const log = logOf(["g0", "recv-wait"]);
+  const note = /** @type {any} */ ({ over: { channel: "g0/c1" }, printed: [], cases: [], woke: [] });
+  const called = () => "numbers (g0/c1)";
+  const place = layOut({ ...KNOWN, called, log, rows: new Rows(log) }, { rowHeight: 22 });
+  const told = [25, 20, 14].map((mostOutcome) => lineOf(log.step(0), note, { ...place, columns: { ...place.columns, mostOutcome } }).outcome[0].text);
+  assert.deepEqual(told, ["waits for numbers (g0/c1)", "waits for numbers", "waits for num…"]);
+});
