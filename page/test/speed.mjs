@@ -31,6 +31,13 @@ const pointing = (row) => `(async ({ page } = rewind, id = page.session.log.id($
   while (page.pointing.about?.id !== id) await new Promise((go) => setTimeout(go, 0));
 })()`;
 
+// Runs in the page: points at the step of a row until it is marked.
+/** @param {number} row */
+const marking = (row) => `(async ({ page } = rewind, id = page.session.log.id(${row})) => {
+  page.pointing.point(id);
+  while (page.views.picture.view.pointed !== id) await new Promise((go) => setTimeout(go, 0));
+})()`;
+
 /** @param {number[]} times */
 const median = (times) => [...times].sort((one, other) => one - other)[times.length >> 1];
 
@@ -121,6 +128,27 @@ async function clicksAtLength(hands, t) {
   await hands.act("now");
 }
 
+// At as many steps as one run takes, the program lists causes in half a second. The step that is pointed at is marked before.
+/**
+ * @param {Hands} hands
+ * @param {TestContext} t
+ */
+async function clicksAtAMillion(hands, t) {
+  await hands.source(LOOP);
+  await hands.browser.run("rewind.page.perform('run 1000000'), 0");
+  await hands.idle();
+  const step = await timesOf(hands, () => "rewind.page.step('g0')");
+  const marked = await timesOf(hands, (/** @type {number} */ at) => marking(999990 - at));
+  await hands.until("rewind.page.pointing.about?.id === rewind.page.pointing.pointed");
+  const again = await timesOf(hands, () => pointing(999984), 3);
+  const past = await timesOf(hands, (/** @type {number} */ at) => `rewind.page.past.lookAt(999900 - ${at})`, 5);
+  t.diagnostic(`at 1,000,000 steps: a step shows in ${step.toFixed(0)} ms, the mark of the pointer in ${marked.toFixed(0)} ms, a past state near the last in ${past.toFixed(0)} ms`);
+  assert.ok(step < CLICK, "a step shows soon at 1,000,000 steps");
+  assert.ok(marked < POINTING && again < POINTING, "a step that is pointed at is marked soon, and coloured soon where it was before");
+  assert.ok(past < LOOKING, "a past state near the end shows soon");
+  await hands.act("now");
+}
+
 // The pointer passes over many steps: only some are asked for, and the last one is shown.
 /** @param {Hands} hands */
 async function passing(hands) {
@@ -166,6 +194,7 @@ const SPEEDS = {
   "many prints": (/** @type {Hands} */ hands, /** @type {TestContext} */ t) => prints(hands, t, PRINTS, 20000),
   "many long prints": (/** @type {Hands} */ hands, /** @type {TestContext} */ t) => prints(hands, t, LONG_PRINTS, 2000),
   "clicks at 100,000 steps": clicksAtLength,
+  "clicks at 1,000,000 steps": clicksAtAMillion,
   "the pointer passes over many steps": passing,
   "drawing during a long run": drawingMeanwhile,
 };

@@ -5,6 +5,8 @@ import { NOTHING_POINTED } from "../picture/picture.js";
 import { isUnanswered } from "../engine/remote.js";
 import { goroutineOf, numberOf } from "../engine/protocol.js";
 
+const SOON = 20; // milliseconds: a step whose causes are not known by then is marked before they are
+
 export class Pointing {
   /** @param {import("./page.js").Page} page */
   constructor(page) {
@@ -16,6 +18,7 @@ export class Pointing {
     this.pointed = "";
     /** @type {{id: string, causes: number, consequences: number} | null} */
     this.about = null;
+    this.sought = ""; // the step whose causes and consequences are looked for, where that takes its time
     /** @type {string[]} */
     this.forbids = [];
     /** @type {Set<string> | null} */
@@ -24,7 +27,7 @@ export class Pointing {
   }
 
   clear() {
-    this.pinned = this.pointed = "";
+    this.pinned = this.pointed = this.sought = "";
     this.about = null;
     this.forbids = [];
     this.view = NOTHING_POINTED;
@@ -61,7 +64,9 @@ export class Pointing {
   point(id) {
     if (!id || this.pointed === id) return;
     this.pointed = id;
-    if (!this.pinned && !this.isFollowing) void this.follow();
+    if (this.pinned) return;
+    if (!this.isFollowing) void this.follow();
+    else if (this.sought) this.seek(id);
   }
 
   // Colours what is pointed at. While a step is asked for, those that the pointer passes over meanwhile are left out, but for the last.
@@ -106,30 +111,44 @@ export class Pointing {
   // Asks for causes and consequences of the step at hand, and shows them.
   async color() {
     const [id, session, asked] = [this.atHand, this.page.session, ++this.asked];
+    this.sought = "";
     if (!session || !id || session.isRunning) {
       this.about = null;
       return this.draw();
     }
+    const marking = window.setTimeout(() => asked === this.asked && session === this.page.session && this.seek(id), SOON);
     try {
       const [causes, consequences] = await session.known.of(id);
-      if (asked !== this.asked || session !== this.page.session) return;
+      if (asked !== this.asked || session !== this.page.session || (this.sought && this.sought !== id)) return;
+      this.sought = "";
       this.about = { id, causes: causes.count - 1, consequences: consequences.count - 1 };
       this.view = { ...NOTHING_POINTED, causes: causes.spans, consequences: consequences.spans };
       this.draw();
     } catch (fault) {
       if (!isUnanswered(fault)) throw fault; // else the step is gone
+    } finally {
+      clearTimeout(marking);
     }
+  }
+
+  // Marks a step while its causes and consequences are looked for.
+  /** @param {string} id */
+  seek(id) {
+    this.about = null;
+    this.sought = id;
+    this.draw();
   }
 
   // Shows what is known in picture, source and text. The step may have gone since.
   draw() {
     if (this.about && !this.isKept(this.about.id)) this.about = null;
+    if (!this.isKept(this.sought)) this.sought = "";
     const { page, about } = this;
     const note = about ? page.note(about.id) : undefined;
     const isDirect = this.isDirect && Boolean(about);
     const base = about ? { ...this.view, causes: isDirect ? this.directCauses(String(about?.id)) : this.view.causes } : NOTHING_POINTED;
     page.views.picture.mark({
-      ...base, pointed: about?.id || "", isKept: Boolean(this.pinned), forbids: this.forbids, count: about && !page.past.isOn ? about.consequences + 1 : 0,
+      ...base, pointed: about?.id || this.sought, isKept: Boolean(this.pinned), forbids: this.forbids, count: about && !page.past.isOn ? about.consequences + 1 : 0,
       cycle: page.past.isOn ? [] : page.cycle, stuck: page.past.isOn ? new Set() : page.stuck, found: this.found, last: page.past.isOn ? page.past.row : Infinity, direct: isDirect,
     });
     page.views.overview.draw();

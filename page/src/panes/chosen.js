@@ -33,10 +33,18 @@ function hint({ session }) {
   return "Point at a step: what it is because of turns blue, and what goes with it orange. Click it to keep it chosen.";
 }
 
+// A step that is kept, in words.
+/**
+ * @param {Page} page
+ * @param {import("../session/session.js").Session} session
+ * @param {string} id
+ */
+const saidOf = (page, { log }, id) => describeStep(log.step(log.row(id)), page.note(id), log.length, (kind) => page.words.kind(kind));
+
 /** @param {Page} page */
 export function showChosen(page) {
   const { session, views } = page;
-  const { about, pinned } = page.pointing;
+  const { about, pinned, sought } = page.pointing;
   const isChosen = Boolean(about && pinned);
   for (const id of ["earlier", "later"]) enable(id, isChosen && !page.past.isOn);
   for (const id of ["back", "bar-back"]) enable(id, isChosen && !page.past.isOn && !page.hindrance);
@@ -46,12 +54,12 @@ export function showChosen(page) {
   views.state.show(page);
   if (!pinned) find("course").replaceChildren();
   if (!about || !session) {
-    find("chosen-text").replaceChildren(hint(page));
+    find("chosen-text").replaceChildren(sought && session ? `${saidOf(page, session, sought)}. What it depends on, and what depends on it, is looked for.` : hint(page));
     find("preview").replaceChildren();
     return;
   }
   const step = session.log.step(session.log.row(about.id));
-  const said = `${describeStep(step, page.note(about.id), session.log.length, (kind) => page.words.kind(kind))}. It depends on `;
+  const said = `${saidOf(page, session, about.id)}. It depends on `;
   const causes = make("span", { class: "cause-word" }, `${inSteps(about.causes)} ↑`);
   const consequences = make("span", { class: "consequence-word" }, `${inSteps(about.consequences)} ↓`);
   const on = about.consequences === 1 ? "; on it depends " : "; on it depend ";

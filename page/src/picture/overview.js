@@ -6,6 +6,12 @@ import { endsAll } from "../session/edges.js";
 
 const MOST = 1500; // steps that are drawn; of more, one in so many
 
+/**
+ * @param {Step} step
+ * @param {PointedView} view
+ */
+const pointedSide = (step, view) => (step.id === view.pointed ? "pointed" : sideOf(step, view));
+
 export class Overview {
   /**
    * @param {HTMLCanvasElement} canvas
@@ -48,12 +54,15 @@ export class Overview {
     const columns = new Map(layout.names.map((name, at) => [name, at]));
     const each = width / Math.max(1, columns.size);
     const by = Math.max(1, Math.floor(rows.length / MOST));
+    const { log } = layout;
+    let used = "";
     for (let at = 0; at < rows.length; at += by) {
-      const step = layout.log.step(rows.at(at));
-      const side = endsAll(step.kind) ? "end" : step.id === picture.view.pointed ? "pointed" : sideOf(step, picture.view);
-      context.fillStyle = colours[/** @type {keyof colours} */ (side)];
+      const row = rows.at(at);
+      const side = endsAll(log.kinds[row]) ? "end" : picture.view.pointed ? pointedSide(log.step(row), picture.view) : "";
+      const wanted = colours[/** @type {keyof colours} */ (side)];
+      if (used !== wanted) context.fillStyle = used = wanted;
       const tall = Math.max(side ? 2 : 1, height / rows.length);
-      context.fillRect((columns.get(step.goroutine) || 0) * each, (at / rows.length) * height, Math.max(2, each - 1), tall);
+      context.fillRect((columns.get(log.columns[row].name) || 0) * each, (at / rows.length) * height, Math.max(2, each - 1), tall);
     }
     context.strokeStyle = frame;
     context.lineWidth = 2;

@@ -4,6 +4,8 @@ import { parseChannel, parseGoroutine } from "../engine/protocol.js";
 import { Unanswered } from "../engine/remote.js";
 
 const SHOWN = 200; // of more goroutines, and of more channels, the first are shown
+/** @type {Tail} */
+const UNPRINTED = { isOk: true, count: 0, lines: [] };
 
 // Asks these goroutines and channels of a session that runs the expanded source.
 /**
@@ -16,10 +18,11 @@ const SHOWN = 200; // of more goroutines, and of more channels, the first are sh
 export async function readScene(remote, names, channels, statements) {
   const [shown, made] = [names.slice(0, SHOWN), channels.slice(0, SHOWN)];
   const hidden = names.length - shown.length + channels.length - made.length;
-  const commands = [...shown.map((name) => `show ${name}`), ...made.map((name) => `chan ${name}`), "console"];
-  const replies = await remote.askAll(commands, "tail");
-  const console = replies[commands.length - 1]; // where too much was printed, it is refused
-  const refused = replies.slice(0, -1).find((reply) => !reply.isOk);
+  const states = [...shown.map((name) => `show ${name}`), ...made.map((name) => `chan ${name}`)];
+  const prints = /\bprintln\b/.test(statements.runText);
+  const replies = await remote.askAll([...states, ...(prints ? ["console"] : [])], "tail"); // which looks through the whole log
+  const console = prints ? replies[states.length] : UNPRINTED; // where too much was printed, it is refused
+  const refused = replies.slice(0, states.length).find((reply) => !reply.isOk);
   if (refused) throw new Unanswered(refused.last);
   const goroutines = shown.map((_, at) => placed(parseGoroutine(replies[at]), statements));
   const isPartial = names.length > shown.length;
@@ -39,7 +42,7 @@ export function placed(goroutine, statements) {
 }
 
 /** @type {Scene} */
-export const NOTHING = { goroutines: [], channels: [], console: { isOk: true, count: 0, lines: [] }, hidden: 0, isPartial: false, isStuck: false, clauses: new Map(), missing: "" };
+export const NOTHING = { goroutines: [], channels: [], console: UNPRINTED, hidden: 0, isPartial: false, isStuck: false, clauses: new Map(), missing: "" };
 
 // The scene of a state that cannot be shown.
 /**
