@@ -146,6 +146,20 @@ def test_a_session_at_a_terminal(source: Path, program: Program, tmp_path: Path)
     assert said.rstrip("\n") == "".join(wanted).rstrip("\n")
 
 
+# Cases of a select with two faults. What a case waits for is part of the select, so its fault comes before that of a body.
+TWO_FAULTS = {
+    "a name that is not declared": "case v := <-c:\n\t\tprintln(v + true)\n\tcase <-missing:\n",
+    "a variable of another case": "case v := <-c:\n\t\tprintln(v + true)\n\tcase c <- v:\n",
+}
+
+
+@pytest.mark.parametrize("cases", TWO_FAULTS.values(), ids=TWO_FAULTS.keys())
+def test_which_of_two_faults_is_named(cases: str, program: Program, tmp_path: Path) -> None:
+    source = tmp_path / "two_faults.go"
+    source.write_text(f"package main\nfunc main() {{\n\tc := make(chan int)\n\tselect {{\n\t{cases}\t}}\n}}\n")
+    assert piped(program, ["--check", str(source)]) == Ran(1, b"", b"rewind: C1 at 4:2\n")
+
+
 def made(name: str, folder: Path) -> Path:
     """A path that is no program: nothing, a folder, an empty file, one of bytes that are no text, or one that may not be read."""
     path = folder / name
