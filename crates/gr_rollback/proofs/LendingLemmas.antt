@@ -1,5 +1,5 @@
 -- Of the goroutines that are ready, those whose next step is local.
-use Rattle.std.proofs.Common.{◌≡◌, ◌+◌, ◌-◌, ◌*◌, ◌<◌, ◌≤◌, ◌%◌, ℕ, zero, suc, arith, Bool, true, false, cond, ◌&&◌, ◌||◌, List, [], ◌∷◌, length, drop, filter, get_or, All, Option, Some, None, refl, sym, ap, subst, ◌∙◌}
+use Rattle.std.proofs.Common.{◌≡◌, ◌+◌, ◌-◌, ◌*◌, ◌/◌, ◌<◌, ◌≤◌, ◌%◌, ℕ, zero, suc, arith, div-add-mod', mod-lt, true≢false, Bool, true, false, cond, ◌&&◌, ◌||◌, List, [], ◌∷◌, length, drop, filter, get_or, All, Option, Some, None, refl, sym, ap, subst, ◌∙◌}
 use Rattle.std.specs.Prelude.{slice_get, option_map, Result, Ok, Err, IfOk, IfSome, IfNone, OnErr}
 use Rattle.std.specs.List.{AllPairs, AllByRecursion}
 use Rattle.std.specs.declared.cmp.Ordering.TheVariants.{Less}
@@ -13,7 +13,7 @@ use Rattle.gr_program.specs.Programs.{Program}
 use Rattle.gr_rules.specs.Frames.{Frame}
 use Rattle.gr_rules.specs.Goroutines.{Status, ready, waiting, finished}
 use Rattle.gr_rules.specs.LocalSteps.{is_local_at, is_local_in}
-use Rattle.gr_rules.specs.States.{Run, live, ended, faulted, same_go}
+use Rattle.gr_rules.specs.States.{Run, live, ended, faulted, State, same_go}
 use Rattle.gr_laws.proofs.CellLemmas.{go_self, go_is}
 use Rattle.gr_code.specs.CodeFrames.{CodeFrame}
 use Rattle.gr_code.specs.Goroutines.{CodeGoroutine}
@@ -155,6 +155,17 @@ stands_among (x ∷ xs) zero n e =
     let same : n ≡ x = cc in ap (λ m. same_go n m || is_among n xs) (sym same) ∙ ap (λ b. b || is_among n xs) (go_self n)
 stands_among (x ∷ xs) (suc k) n e = ap (λ b. same_go n x || b) (stands_among xs k n e) ∙ or_true (same_go n x)
 
+-- the first goroutine whose next step is local, and that there is none
+none_among : (xs : List (List ℕ)) (n : List ℕ) → None ≡ slice_get xs (0 % length xs) → is_among n xs ≡ false
+none_among [] n e = refl
+none_among (x ∷ xs) n e = absurd (not_got (x ∷ xs) (0 % length (x ∷ xs)) (mod-lt 0 (omega arith)) e)
+
+pub first_goes : (s : State) (n : List ℕ) → IsLentAt s 0 (Some n) → goes_alone s n ≡ true
+first_goes s n l = sym (l.alone.each n) ∙ stands_among l.names (0 % length l.names) n l.at
+
+pub none_goes : (s : State) (n : List ℕ) → IsLentAt s 0 None → goes_alone s n ≡ true → ⊥
+none_goes s n l h = true≢false (sym h ∙ sym (l.alone.each n) ∙ none_among l.names n l.at)
+
 -- the names of a machine's pool whose next step is local
 module _ (p : Program) (w : Timeline p) (m : Machine) (s : Stands p w m) where
   abbrev pub names : List (List ℕ)
@@ -196,6 +207,13 @@ module _ (p : Program) (w : Timeline p) (m : Machine) (s : Stands p w m) where
       within [] i x e = cc
       within (y ∷ xs) zero x e = omega arith
       within (y ∷ xs) (suc i) x e = let rest = within xs i x e in omega (arith, rest)
+
+  -- the first of them
+  pub lent_first : (o : Option (List ℕ)) → IsInOrder m.course.pool.ready → o ≡ slice_get names 0 → IsLentAt w.past.state 0 o
+  lent_first o ordered is = lent_at 0 o ordered (is ∙ sym (ap (slice_get names) (zero_mod (length names))))
+    where
+      zero_mod : (k : ℕ) → 0 % k ≡ 0
+      zero_mod k = let whole : (0 / k) * k + 0 % k ≡ 0 = div-add-mod' 0 k in omega (arith, whole)
 
   pub some_alone : (n : List ℕ) → Some n ≡ slice_get names 0 → SomeGoesAlone w.past.state
   some_alone n e = (n, sym (as_rules n) ∙ stands_among names 0 n e)

@@ -21,7 +21,7 @@ mod BackLemmas
 mod DependenceLemmas
 mod AskLemmas
 pub mod LeasingLemmas
-mod LendingLemmas
+pub mod LendingLemmas
 mod JoinLemmas
 mod ChoiceLemmas
 pub use Rattle.gr_goros.proofs.goroutine.Goroutine.TheSendSync as GoroutineSendSync

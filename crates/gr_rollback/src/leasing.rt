@@ -134,6 +134,14 @@ impl Machine {
         self.course.store.lend(alloc, go)
     }
 
+    /// The first goroutine, in the order of names, whose next step is local. `None` where there is none. It takes no memory.
+    pub fn first_alone(&self) -> Option<&GoName>
+        requires { IsMachine self.now }
+        ensures { (p : ProgramSeen) (w : Timeline p) → Stands p w self.now → IsLentAt w.past.state 0 (option_copied result) }
+    {
+        nth_alone(&self.course.store, &self.course.pool, 0)
+    }
+
     /// Whether the next step of some goroutine is local. It takes no memory.
     pub fn has_own_step(&self) -> bool
         requires { IsMachine self.now }
