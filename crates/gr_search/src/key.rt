@@ -1,11 +1,13 @@
 //! What matters of a state, as bytes.
 
-ghost use Rattle.std.specs.Prelude.{◌≡◌, nat_eq};
+ghost use Rattle.std.specs.Prelude.{◌≡◌, ◌++◌, nat_eq, IfOk};
+ghost use Rattle.std.specs.Int.{to_le_bytes, w64};
 ghost use Rattle.std.specs.Cmp.Lexicographic.{pointwise};
 ghost use Rattle.std.specs.Cmp.Rules.{comparing, hashing};
 ghost use Rattle.std.specs.Hash as fed;
 ghost use Rattle.std.proofs.Common.{rules};
 
+use std::alloc::AllocError;
 use std::hash::{Hash, Hasher};
 use std::marker::Model;
 
@@ -29,6 +31,15 @@ impl Key {
         ensures { result ≡ bytes.items }
     {
         Key { bytes }
+    }
+
+    /// The key with a number after it, as eight bytes.
+    pub(crate) fn with_number(self, number: u64) -> Result<Key, AllocError>
+        ensures { IfOk result (λ key. key ≡ self ++ to_le_bytes w64 number) }
+    {
+        let mut bytes = self.bytes;
+        bytes.extend_from_slice(&number.to_le_bytes())?;
+        Ok(Key { bytes })
     }
 }
 

@@ -5,6 +5,7 @@
 ghost use Rattle.std.specs.Prelude.{◌≡◌, Bool, true, List, Option};
 ghost use Rattle.gr_search.specs.System.{Laws, Closed, IsSafe, tested};
 
+pub mod bounded;
 pub mod key;
 pub mod search;
 pub mod searched;
