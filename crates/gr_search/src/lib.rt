@@ -9,6 +9,7 @@ pub mod bounded;
 pub mod key;
 pub mod search;
 pub mod searched;
+pub mod shortest;
 
 /// Where a set of keys is closed up to events that are taken alone, no run reaches a bad state. Here a test tells which are bad.
 pub fn law_of_closed_sets<S, E, K>()

@@ -247,6 +247,18 @@ fn explore<M: Searched>(alloc: Global, machine: &mut M, limits: &Limits) -> Resu
     Err(Limit::Turns)
 }
 
+/// Takes all steps back.
+pub(crate) fn take_all_back<M: Searched>(machine: &mut M) -> Result<(), Limit>
+    requires { M.stands machine.old }
+    ensures stands { M.stands machine.new }
+    ensures fixed { M.fixed machine.new ≡ M.fixed machine.old }
+    ensures home { OnOk result (M.log machine.new ≡ []) }
+    ensures refuses { IfErr result RefusesBack }
+{
+    let count = machine.taken();
+    go_back(machine, count)
+}
+
 /// Takes all steps back, after this limit was met.
 fn go_home<M: Searched>(machine: &mut M, limit: Limit) -> Limit
     requires { M.stands machine.old }
@@ -255,8 +267,7 @@ fn go_home<M: Searched>(machine: &mut M, limit: Limit) -> Limit
     ensures home { IsHome (Answer.Limited result) (M.log machine.new) }
     ensures limit { (result ≡ limit) ⊎ (result ≡ Limit.Back) }
 {
-    let count = machine.taken();
-    match go_back(machine, count) {
+    match take_all_back(machine) {
         Ok(()) => limit,
         Err(limit) => limit,
     }
