@@ -248,7 +248,7 @@ fn explore<M: Searched>(alloc: Global, machine: &mut M, limits: &Limits) -> Resu
 }
 
 /// Takes all steps back.
-pub(crate) fn take_all_back<M: Searched>(machine: &mut M) -> Result<(), Limit>
+pub fn take_all_back<M: Searched>(machine: &mut M) -> Result<(), Limit>
     requires { M.stands machine.old }
     ensures stands { M.stands machine.new }
     ensures fixed { M.fixed machine.new ≡ M.fixed machine.old }
