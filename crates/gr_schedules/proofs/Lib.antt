@@ -1,4 +1,5 @@
 pub mod ScheduleLemmas
+pub mod AimLemmas
 pub mod KeyLemmas
 pub mod ChoiceLemmas
 pub mod NameLemmas

@@ -1,4 +1,5 @@
 pub mod Schedules
+pub mod Aims
 pub mod Names
 pub mod Choices
 pub mod Keys

@@ -1,5 +1,5 @@
-//! All schedules of a program: what is bad of a state, which events are tried there, and which bytes are its key. Laws, each on a
-//! function that does nothing.
+//! All schedules of a program: what is looked for in a state, which events are tried there, and which bytes are its key. Laws,
+//! each on a function that does nothing.
 #![tactic(auto)]
 
 ghost use Rattle.std.specs.Prelude.{◌≡◌, ◌∷◌, ◌++◌, [], List, ℕ, Some, true, map};
@@ -16,16 +16,42 @@ ghost use Rattle.gr_record.specs.Kept.{Kept};
 ghost use Rattle.gr_record.specs.Listings.{state_in};
 ghost use Rattle.gr_record.specs.Running.{IsChecked};
 ghost use Rattle.gr_search.specs.System.{Laws, IsSafe, Leads};
+ghost use Rattle.gr_search.specs.Bounds.{HasBad, IsSafeWithin};
 ghost use Rattle.gr_schedules.specs.Schedules.{Origin, NoneEndsBadly, next_state, schedules, state_after};
+ghost use Rattle.gr_schedules.specs.Aims.{NoneComes, NoneComesWithin, SomeComesBy, schedules_to};
+ghost use Rattle.gr_schedules.specs.declared.Aim.{Aim as AimSought};
 ghost use Rattle.gr_schedules.specs.Names.{AreAll, goroutines_begun, channels_made};
 ghost use Rattle.gr_schedules.specs.Choices.{choices_of, can_act};
 ghost use Rattle.gr_schedules.specs.Keys.{IsKey};
+
+/// What is looked for in a state.
+#[derive(Clone, Copy)]
+pub enum Aim {
+    /// A run ends badly there: by a fault, or stuck.
+    EndsBadly,
+    /// A run ends well there: the program has ended, without a fault.
+    EndsWell,
+}
 
 /// The schedules of a program meet the laws of systems that are searched. Where the search finds no bad state, no run of the
 /// program from there ends badly.
 pub fn law_of_schedules()
     ensures laws { (o : Origin) → Laws (schedules o) }
     ensures safe { (o : Origin) → IsSafe (schedules o) → NoneEndsBadly o.program (state_after o.program o.before) }
+{}
+
+/// The same for each aim: where the search finds nothing, no run of the program from there comes to the aim. Where it finds
+/// nothing within a number of steps, none of at most so many does. Where no run comes to the aim, none does after a step more.
+pub fn law_of_aims()
+    ensures laws { (aim : AimSought) (o : Origin) → Laws (schedules_to aim o) }
+    ensures safe { (aim : AimSought) (o : Origin) → IsSafe (schedules_to aim o)
+        → NoneComes aim o.program (state_after o.program o.before) }
+    ensures within { (aim : AimSought) (o : Origin) (n : ℕ) → IsSafeWithin (schedules_to aim o) n
+        → NoneComesWithin aim o.program n (state_after o.program o.before) }
+    ensures found { (aim : AimSought) (o : Origin) (n : ℕ) → HasBad (schedules_to aim o) n
+        → SomeComesBy aim o.program n (state_after o.program o.before) }
+    ensures lost { (aim : AimSought) (p : Program) (s t : State) (steps : List (Logged p)) → IsLog (machine p) s steps t
+        → NoneComes aim p s → NoneComes aim p t }
 {}
 
 /// A key is of one state.

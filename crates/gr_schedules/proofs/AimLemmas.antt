@@ -1,0 +1,110 @@
+-- The schedules of a program with an aim. The crates above use these lemmas too.
+use Rattle.std.proofs.Common.{◌≡◌, ◌+◌, ℕ, true, false, List, [], ◌∷◌, ◌++◌, length, map, Option, Some, None, option_map, refl, sym, ◌∙◌, ap, subst, arith}
+use Rattle.gr_base.specs.declared.events.Event.{Event}
+use Rattle.gr_causal.specs.Machine.{IsLog}
+use Rattle.gr_causal.proofs.PathLemmas.{Path, path_of, log_join}
+use Rattle.gr_program.specs.Programs.{Program}
+use Rattle.gr_rules.specs.Attempts.{program_is_over}
+use Rattle.gr_rules.specs.States.{State, live, ended}
+use Rattle.gr_rules.specs.Steps.{machine, refusal}
+use Rattle.gr_laws.specs.Reached.{Logged}
+use Rattle.gr_laws.proofs.ReasonLemmas.{if_over}
+use Rattle.gr_laws.proofs.RefusalLemmas.{refused_is_no_step}
+use Rattle.gr_search.specs.System.{Laws, IsSafe, Leads, Reached, Runs}
+use Rattle.gr_search.specs.Bounds.{HasBad, IsSafeWithin}
+use Rattle.gr_schedules.specs.declared.Aim.{Aim}
+use Rattle.gr_schedules.specs.declared.Aim.TheVariants.{EndsBadly, EndsWell}
+use Rattle.gr_schedules.specs.Schedules.{Origin, schedules, state_after, newest_first}
+use Rattle.gr_schedules.specs.Aims.{IsAim, NoneComes, NoneComesWithin, SomeComesBy, schedules_to}
+use Rattle.gr_schedules.proofs.ScheduleLemmas.{Led, led_by, schedule_laws}
+
+none_not : {A : Type 0} (a : A) → None ≡ Some a → ⊥
+none_not a e = cc
+
+no_truth : false ≡ true → ⊥
+no_truth e = cc
+
+-- nothing is possible where the program has ended
+over : (o : Origin) (s t : State) (e : Event) → s.run ≡ ended → (schedules o).next s e ≡ Some t → ⊥
+over o s t e h n =
+    let refused : refusal o.program s e ≡ Some program_is_over = if_over o.program s e (λ l. let k : ended ≡ live = sym h ∙ l in cc) in
+    none_not t (sym (ap (λ (r : Option (State × (machine o.program).Note)). option_map (λ x. x.0) r) ((refused_is_no_step o.program s e).1 (program_is_over, refused))) ∙ n)
+
+-- what leads by the schedules with an aim leads by the schedules, and the other way round
+module _ (aim : Aim) (o : Origin) where
+  pub same_leads : (log : List Event) (t : State) → Leads (schedules_to aim o) log t → Leads (schedules o) log t
+  same_leads [] t h = h
+  same_leads (e ∷ log) t h = (h.0, same_leads log h.0 h.1, h.2)
+
+  pub leads_to : (log : List Event) (t : State) → Leads (schedules o) log t → Leads (schedules_to aim o) log t
+  leads_to [] t h = h
+  leads_to (e ∷ log) t h = (h.0, leads_to log h.0 h.1, h.2)
+
+  same_reached : (t : State) → Reached (schedules_to aim o) t → Reached (schedules o) t
+  same_reached t r = record { log = r.log; leads = same_leads r.log t r.leads }
+
+well_laws : (o : Origin) → Laws (schedules_to EndsWell o)
+well_laws o =
+    let laws = schedule_laws o in
+    record {
+      alone_goes = λ s a r h. laws.alone_goes s a (same_reached EndsWell o s r) h;
+      alone_fine = λ s a r h w. let t = laws.alone_goes s a (same_reached EndsWell o s r) h in over o s t.0 a w t.1;
+      alone_apart = λ s t u a e r h. absurd (no_truth h);
+      like_next = λ s r t e i j k h. laws.like_next s r t e (same_reached EndsWell o s i) (same_reached EndsWell o r j) k h;
+      like_bad = λ s r i j k b. subst (IsAim EndsWell) k b;
+    }
+
+pub aim_laws : (aim : Aim) (o : Origin) → Laws (schedules_to aim o)
+aim_laws EndsBadly o = schedule_laws o
+aim_laws EndsWell o = well_laws o
+
+module _ (aim : Aim) (o : Origin) where
+  abbrev p : Program
+  p = o.program
+
+  abbrev s : State
+  s = state_after o.program o.before
+
+  runs_on : (m t : State) (steps : List (Logged p)) → Path (machine p) m steps t → Runs (schedules_to aim o) m (map (λ (r : Logged p). r.event) steps) t
+  runs_on m t [] e = e
+  runs_on m t (r ∷ rs) w = (w.0, ap (option_map (λ (x : State × (machine p).Note). x.0)) w.1.does, runs_on w.0 t rs w.2)
+
+  runs : (steps : List (Logged p)) (t : State) → IsLog (machine p) s steps t → Runs (schedules_to aim o) s (map (λ (r : Logged p). r.event) steps) t
+  runs steps t l = runs_on s t steps (path_of (machine p) s steps t l)
+
+  pub none_comes : IsSafe (schedules_to aim o) → NoneComes aim p s
+  none_comes safe steps t l b = safe (map (λ (r : Logged p). r.event) steps) t (runs steps t l) b
+
+  as_long : (steps : List (Logged p)) → length (map (λ (r : Logged p). r.event) steps) ≡ length steps
+  as_long [] = refl
+  as_long (r ∷ rs) = let h = as_long rs in omega (arith, h)
+
+  pub none_comes_within : (n : ℕ) → IsSafeWithin (schedules_to aim o) n → NoneComesWithin aim p n s
+  none_comes_within n safe steps t l k b = safe (map (λ (r : Logged p). r.event) steps) t (runs steps t l) (let h = as_long steps in omega (arith, k, h)) b
+
+  pub led_to : (log : List Event) (t : State) → Leads (schedules_to aim o) log t → Led o log t
+  led_to log t h = led_by o log t (same_leads aim o log t h)
+
+  newest_long : (xs done : List Event) → length (newest_first xs done) ≡ length xs + length done
+  newest_long [] done = omega arith
+  newest_long (x ∷ xs) done = let h = newest_long xs (x ∷ done) in omega (arith, h)
+
+  pub led_long : (log : List Event) (t : State) (led : Led o log t) → length led.steps ≡ length log
+  led_long log t led =
+      let events = map (λ (r : Logged p). r.event) led.steps in
+      let a = as_long led.steps in
+      let b = newest_long events [] in
+      let c : length (newest_first events []) ≡ length log = ap length led.events_are in
+      omega (arith, a, b, c)
+
+  pub some_comes : (n : ℕ) → HasBad (schedules_to aim o) n → SomeComesBy aim p n s
+  some_comes n h =
+      let led = led_to h.log h.at h.leads in
+      record {
+        some = record { steps = led.steps; state = h.at; leads = led.leads; comes = h.bad };
+        long = led_long h.log h.at led ∙ h.long;
+      }
+
+-- where none comes to the aim, none does later
+pub none_later : (aim : Aim) (p : Program) (s t : State) (steps : List (Logged p)) → IsLog (machine p) s steps t → NoneComes aim p s → NoneComes aim p t
+none_later aim p s t steps l none more u k = none (steps ++ more) u (log_join (machine p) s t u steps more l k)
