@@ -1,7 +1,10 @@
 mod ListLemmas
 mod NameLemmas
-mod MachineLemmas
+pub mod MachineLemmas
 mod StepLemmas
 mod EndLemmas
 mod OfferLemmas
 mod ChoiceLists
+mod AloneLemmas
+mod MoveLemmas
+mod BlameLemmas

@@ -19,6 +19,7 @@ use Rattle.gr_schedules.specs.Choices.{all_choices, can_act}
 use Rattle.gr_schedules.specs.Names.{AreAll, goroutines_begun, channels_made}
 use Rattle.gr_schedules.proofs.ChoiceLemmas.{possible_events, in_all_choices, acts_there}
 use Rattle.gr_schedules.proofs.NameLemmas.{all_named}
+use Rattle.gr_schedules.specs.Matters.{matter}
 use Rattle.gr_schedules.specs.Keys.{IsKey, entries, listing_code}
 use Rattle.gr_schedules.proofs.KeyLemmas.{is_key_of}
 use Rattle.gr_explore.specs.Exploring.{origin_of, state_seen}
@@ -66,7 +67,7 @@ all_offered m base is names all events e event t next =
 pub is_key : (m : Machine) → IsMachine m → (gos : List (List ℕ)) (chs : List ChName) → IsPermutation ([] ∷ goroutines_begun (steps_of m)) gos
     → IsPermutation (channels_made (steps_of m)) chs → (key : List ℕ)
     → key ≡ listing_code (record { run = (contents_at (store_of m)).run; goroutines = entries (contents_at (store_of m)).goroutines gos; channels = entries (contents_at (store_of m)).channels chs })
-    → IsKey (program_at (store_of m)) key (state_seen m)
+    → IsKey (program_at (store_of m)) key (matter (state_seen m))
 is_key m is gos chs all_gos all_chs key e =
     let all = named m is in
     is_key_of (program_at (store_of m)) key (contents_at (store_of m)) gos chs

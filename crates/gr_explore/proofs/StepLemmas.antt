@@ -249,6 +249,12 @@ pub fine_if_ended : (m : Machine) → (state_seen m).run ≡ ended → IsBad (st
 fine_if_ended m e (inl b) = let h : ended ≡ faulted b.0 = sym e ∙ b.1 in cc
 fine_if_ended m e (inr b) = let h : ended ≡ live = sym e ∙ b.0 in cc
 
+pub not_ended_if_faulted : (m : Machine) (f : Fault) → (state_seen m).run ≡ faulted f → (state_seen m).run ≡ ended → ⊥
+not_ended_if_faulted m f e h = let k : faulted f ≡ ended = sym e ∙ h in cc
+
+pub not_ended_if_live : (m : Machine) → (state_seen m).run ≡ live → (state_seen m).run ≡ ended → ⊥
+not_ended_if_live m e h = let k : live ≡ ended = sym e ∙ h in cc
+
 pub bad_if_stuck : (m : Machine) (r : Bool) → (state_seen m).run ≡ live → IsTrue r ↔ ((g : List ℕ) → IsReady (state_seen m) g → ⊥) → IsTrue r ↔ IsBad (state_seen m)
 bad_if_stuck m r e w = (λ h. inr (e, w.0 h), λ b. elim b [ inl f ↦ absurd (let h : live ≡ faulted f.0 = sym e ∙ f.1 in not_fault f.0 h) | inr s ↦ w.1 s.1 ])
   where

@@ -12,7 +12,9 @@ use Rattle.gr_step.specs.Stores.{program_at, state_at}
 use Rattle.gr_rollback.specs.declared.machine.Machine.{Machine}
 use Rattle.gr_rollback.specs.Machines.{store_of, steps_of, Stands, IsMachine}
 use Rattle.gr_rollback.specs.Pasts.{Timeline}
+use Rattle.gr_schedules.specs.declared.Aim.{Aim}
 use Rattle.gr_schedules.specs.Schedules.{Origin, IsBad, newest_first}
+use Rattle.gr_schedules.specs.Aims.{IsAim}
 use Rattle.gr_search.specs.declared.searched.Limit.TheVariants.{Back}
 use Rattle.gr_search.specs.declared.search.Answer.{Answer}
 use Rattle.gr_search.specs.declared.search.Answer.TheVariants.{Nothing, Found, Limited}
@@ -40,7 +42,24 @@ pub record StandsSince (m : Machine) (base : ℕ) : Type 0 where
   pub is : IsMachine m
   pub within : base ≤ length (events_at m)
 
--- steps lead from where a machine stood to a state that is bad, and the machine stands there: they are the last of its log
+-- steps lead on from where a machine stood, and the machine stands there: they are the last of its log
+pub record StandsOn (p : Program) (w : Timeline p) (m : Machine) : Type 0 where
+  pub steps : List (Logged p)
+  pub state : State
+  pub leads : IsLog (machine p) w.past.state steps state
+  pub again : List Event
+  pub stands : Stands p (record { past = record { log = w.past.log ++ steps; state = state }; again = again }) m
+
+-- they lead to the aim
+pub record ComesTo (aim : Aim) (p : Program) (w : Timeline p) (m : Machine) : Type 0 where
+  pub steps : List (Logged p)
+  pub state : State
+  pub leads : IsLog (machine p) w.past.state steps state
+  pub comes : IsAim aim state
+  pub again : List Event
+  pub stands : Stands p (record { past = record { log = w.past.log ++ steps; state = state }; again = again }) m
+
+-- they lead to a state that is bad
 pub record EndsBadly (p : Program) (w : Timeline p) (m : Machine) : Type 0 where
   pub steps : List (Logged p)
   pub state : State
@@ -54,9 +73,9 @@ pub record StandsAgain (p : Program) (w : Timeline p) (m : Machine) : Type 0 whe
   pub again : List Event
   pub stands : Stands p (record { past = w.past; again = again }) m
 
--- after every answer but a bad state it stands where it stood, unless a step could not be taken back
+-- after every answer but one that was found it stands where it stood; or after more steps, where one could not be taken back
 abbrev pub IsHome : (p : Program) → Timeline p → Answer → Machine → Type 0
 IsHome p w Found m = Unit {0}
-IsHome p w (Limited Back) m = Unit {0}
+IsHome p w (Limited Back) m = StandsOn p w m
 IsHome p w (Limited limit) m = StandsAgain p w m
 IsHome p w Nothing m = StandsAgain p w m

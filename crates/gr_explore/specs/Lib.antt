@@ -1,3 +1,6 @@
 pub mod Exploring
+pub mod Alone
 pub mod Leading
 pub mod Trying
+pub mod Fewest
+pub mod Blaming

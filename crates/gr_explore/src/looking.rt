@@ -7,6 +7,7 @@ ghost use Rattle.gr_search.specs.Going.{HasAll};
 ghost use Rattle.gr_schedules.specs.Schedules.{schedules};
 ghost use Rattle.gr_schedules.specs.Choices.{AreChoices};
 ghost use Rattle.gr_schedules.specs.Keys.{IsKey};
+ghost use Rattle.gr_schedules.specs.Matters.{matter};
 ghost use Rattle.gr_schedules.specs.Names.{channels_made, goroutines_begun};
 ghost use Rattle.gr_rollback.specs.Machines.{IsMachine, steps_of, store_of};
 ghost use Rattle.gr_explore.specs.Exploring.{origin_of, state_seen};
@@ -49,7 +50,7 @@ fn channels_of(alloc: Global, machine: &Machine) -> Result<Vec<ChName>, NoMemory
 /// A key of the state in which a machine stands.
 pub(crate) fn key_of(alloc: Global, machine: &Machine) -> Result<Key, NoMemory>
     requires { IsMachine machine.now }
-    ensures { IfOk result (λ key. IsKey (program_at (store_of machine.now)) key (state_seen machine.now)) }
+    ensures { IfOk result (λ key. IsKey (program_at (store_of machine.now)) key (matter (state_seen machine.now))) }
 {
     let goroutines = goroutines_of(alloc, machine)?;
     let channels = channels_of(alloc, machine)?;

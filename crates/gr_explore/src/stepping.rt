@@ -3,7 +3,9 @@
 ghost use Rattle.std.specs.Prelude.{Ok, Err, ◌≡◌, ◌<◌, ◌≤◌, ◌↔◌, IsTrue, IsFalse, length, List, ℕ};
 ghost use Rattle.gr_rules.specs.Limits.{most_steps};
 ghost use Rattle.gr_rules.specs.Turns.{IsReady};
+ghost use Rattle.gr_rules.specs.States.{ended};
 ghost use Rattle.gr_schedules.specs.Schedules.{IsBad};
+ghost use Rattle.gr_schedules.specs.Aims.{IsAim};
 ghost use Rattle.gr_rollback.specs.Machines.{IsMachine, steps_of};
 ghost use Rattle.gr_explore.specs.Exploring.{StandsSince, events_since, state_seen};
 ghost use Rattle.gr_search.specs.declared.searched.Limit.TheVariants as limits;
@@ -11,6 +13,7 @@ ghost use Rattle.gr_explore.specs.Trying.{IsNotTaken, Returned, Tried};
 
 use gr_base::{Event, StepId};
 use gr_rollback::{BackRefused, LOG_LIMIT, Machine, Run};
+use gr_schedules::Aim;
 use gr_search::searched::Limit;
 use gr_step::StepRefused;
 use std::alloc::Global;
@@ -106,7 +109,7 @@ fn is_stuck(machine: &Machine) -> bool
 }
 
 /// Whether a run ends badly where the machine stands.
-pub(crate) fn ends_badly(machine: &Machine) -> bool
+fn ends_badly(machine: &Machine) -> bool
     requires { IsMachine machine.now }
     ensures { IsTrue result ↔ IsBad (state_seen machine.now) }
 {
@@ -114,5 +117,26 @@ pub(crate) fn ends_badly(machine: &Machine) -> bool
         Run::Faulted(_) => true,
         Run::Ended => false,
         Run::Live => is_stuck(machine),
+    }
+}
+
+/// Whether a run ends well where the machine stands.
+fn ends_well(machine: &Machine) -> bool
+    ensures { IsTrue result ↔ ((state_seen machine.now).run ≡ ended) }
+{
+    match machine.store().run() {
+        Run::Ended => true,
+        Run::Faulted(_) | Run::Live => false,
+    }
+}
+
+/// Whether the machine stands where the aim is reached.
+pub(crate) fn is_at(machine: &Machine, aim: Aim) -> bool
+    requires { IsMachine machine.now }
+    ensures { IsTrue result ↔ IsAim aim (state_seen machine.now) }
+{
+    match aim {
+        Aim::EndsBadly => ends_badly(machine),
+        Aim::EndsWell => ends_well(machine),
     }
 }

@@ -1,8 +1,8 @@
 -- Codes of parts make codes of the whole. The crates above use these lemmas too.
-use Rattle.std.proofs.Common.{◌≡◌, ℕ, pos, negsuc, zero, suc, nat_lt, ◌^◌, ◌<◌, Bool, true, false, List, [], ◌∷◌, ◌++◌, length, Some, None, if◌then◌else◌, refl, sym, ◌∙◌, ap, append_assoc, arith, ltb-true}
+use Rattle.std.proofs.Common.{◌≡◌, ℕ, pos, negsuc, zero, suc, nat_lt, ◌^◌, ◌<◌, Bool, true, false, List, [], ◌∷◌, ◌++◌, map, length, Some, None, option_map, if◌then◌else◌, refl, sym, ◌∙◌, ap, append_assoc, arith, ltb-true}
 use Rattle.std.specs.Int.{from_le_bytes, to_le_bytes, w64}
 use Rattle.std.proofs.lemmas.Nat.{from_le_bytes-to_le_bytes_8}
-use Rattle.gr_keys.specs.Codes.{IsCode, ones, wide_code, number_code, bit_code, integer_code, option_code, list_code, pair_code}
+use Rattle.gr_keys.specs.Codes.{IsCode, IsCodeOf, ones, wide_code, number_code, bit_code, integer_code, option_code, list_code, pair_code}
 
 pub heads : (a b : ℕ) (xs ys : List ℕ) → a ∷ xs ≡ b ∷ ys → (a ≡ b) × (xs ≡ ys)
 heads a b xs ys e = (cc, cc)
@@ -100,6 +100,36 @@ module _ {A : Type 0} (code : A → List ℕ) (is_code : IsCode code) where
 -- the code of what a value is seen as, where the value can be told from that
 pub seen_as : {A B : Type 0} (code : B → List ℕ) (view : A → B) (back : B → A) → ((x : A) → back (view x) ≡ x) → IsCode code → IsCode (λ x. code (view x))
 seen_as code view back told is x y xs ys e = let w = is (view x) (view y) xs ys e in (sym (told x) ∙ ap back w.0 ∙ told y, w.1)
+
+-- the code of what a value is seen as, and what can be told from that
+pub told_as : {A B C : Type 0} (code : B → List ℕ) (view : A → B) (told : B → C) → IsCode code → IsCodeOf (λ x. told (view x)) (λ x. code (view x))
+told_as code view told is x y xs ys e = let w = is (view x) (view y) xs ys e in (ap told w.0, w.1)
+
+-- what codes of the parts tell, a code of the whole tells
+module _ {A B C D : Type 0} (f : A → List ℕ) (g : B → List ℕ) (a : A → C) (b : B → D) (is_f : IsCodeOf a f) (is_g : IsCodeOf b g) where
+  pub pairs_told : IsCodeOf {B = C × D} (λ (p : A × B). (a p.0, b p.1)) (pair_code f g)
+  pairs_told x y xs ys e =
+      let v = is_f x.0 y.0 (g x.1 ++ xs) (g y.1 ++ ys) (sym (append_assoc (f x.0) (g x.1) xs) ∙ e ∙ append_assoc (f y.0) (g y.1) ys) in
+      let w = is_g x.1 y.1 xs ys v.1 in
+      (λ i. (v.0 i, w.0 i), w.1)
+
+module _ {A B : Type 0} (code : A → List ℕ) (view : A → B) (is_code : IsCodeOf view code) where
+  pub options_told : IsCodeOf (option_map view) (option_code code)
+  options_told None None xs ys e = (refl, (heads _ _ _ _ e).1)
+  options_told None (Some y) xs ys e = zero_one e
+  options_told (Some x) None xs ys e = one_zero e
+  options_told (Some x) (Some y) xs ys e = let w = is_code x y xs ys (heads _ _ _ _ e).1 in (ap Some w.0, w.1)
+
+  pub lists_told : IsCodeOf (map view) (list_code code)
+  lists_told [] [] xs ys e = (refl, (heads _ _ _ _ e).1)
+  lists_told [] (y ∷ bs) xs ys e = zero_one e
+  lists_told (x ∷ as') [] xs ys e = one_zero e
+  lists_told (x ∷ as') (y ∷ bs) xs ys e =
+      let rest = (heads _ _ _ _ e).1 in
+      let w = is_code x y (list_code code as' ++ xs) (list_code code bs ++ ys)
+      (sym (append_assoc (code x) (list_code code as') xs) ∙ rest ∙ append_assoc (code y) (list_code code bs) ys) in
+      let v = lists_told as' bs xs ys w.1 in
+      (λ i. w.0 i ∷ v.0 i, v.1)
 
 -- another way to write a code
 pub written_as : {A : Type 0} (f g : A → List ℕ) → ((x : A) → f x ≡ g x) → IsCode f → IsCode g

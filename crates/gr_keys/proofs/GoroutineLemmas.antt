@@ -1,15 +1,15 @@
 -- Codes of goroutines and channels are codes.
-use Rattle.std.proofs.Common.{ℕ, List, refl, ap}
+use Rattle.std.proofs.Common.{ℕ, List, [], refl, ap}
 use Rattle.gr_base.specs.declared.values.Value.{Value}
 use Rattle.gr_channels.specs.declared.waiter.Waiter.{Waiter}
 use Rattle.gr_channels.specs.Channels.{Content}
 use Rattle.gr_rules.specs.Goroutines.{ToSend, ToReceive, ready, waiting, finished}
 use Rattle.gr_code.specs.CodeFrames.{CodeFrame}
 use Rattle.gr_code.specs.Goroutines.{CodeGoroutine}
-use Rattle.gr_keys.specs.Codes.{IsCode, number_code, bit_code, option_code, list_code, pair_code}
+use Rattle.gr_keys.specs.Codes.{IsCode, IsCodeOf, number_code, bit_code, option_code, list_code, pair_code}
 use Rattle.gr_keys.specs.ValueCodes.{name_code, channel_name_code, value_code, cell_code}
-use Rattle.gr_keys.specs.GoroutineCodes.{frame_code, wait_code, status_code, text_code, goroutine_code, sender_code, receiver_code, channel_code}
-use Rattle.gr_keys.proofs.CodeLemmas.{heads, other_marks, numbers, bits, options, lists, pairs, seen_as}
+use Rattle.gr_keys.specs.GoroutineCodes.{frame_code, wait_code, status_code, goroutine_code, bare_goroutine, sender_code, receiver_code, channel_code, bare_channel}
+use Rattle.gr_keys.proofs.CodeLemmas.{heads, other_marks, numbers, bits, options, lists, pairs, seen_as, told_as}
 use Rattle.gr_keys.proofs.ValueLemmas.{names, channel_names, values_told, cells}
 
 -- three parts, one after the other
@@ -43,14 +43,11 @@ statuses (waiting ws) finished xs ys e = other_marks 1 2 _ _ (λ h. cc) e
 statuses finished ready xs ys e = other_marks 2 0 _ _ (λ h. cc) e
 statuses finished (waiting vs) xs ys e = other_marks 2 1 _ _ (λ h. cc) e
 
-texts : IsCode text_code
-texts = lists (list_code number_code) (lists number_code numbers)
-
-pub goroutines : IsCode goroutine_code
-goroutines = seen_as (pair_code status_code (pair_code (list_code frame_code) (pair_code (pair_code number_code (pair_code number_code number_code)) text_code)))
-    (λ (g : CodeGoroutine). (g.status, (g.frames, ((g.steps, (g.children, g.channels)), g.text))))
-    (λ p. record { status = p.0; frames = p.1.0; steps = p.1.1.0.0; children = p.1.1.0.1.0; channels = p.1.1.0.1.1; text = p.1.1.1 }) (λ g. refl)
-    (pairs status_code _ statuses (pairs (list_code frame_code) _ (lists frame_code frames) (pairs _ text_code (triple number_code number_code number_code numbers numbers numbers) texts)))
+pub goroutines : IsCodeOf bare_goroutine goroutine_code
+goroutines = told_as (pair_code status_code (pair_code (list_code frame_code) (pair_code number_code number_code)))
+    (λ (g : CodeGoroutine). (g.status, (g.frames, (g.children, g.channels))))
+    (λ p. record { status = p.0; frames = p.1.0; steps = 0; children = p.1.1.0; channels = p.1.1.1; text = [] })
+    (pairs status_code _ statuses (triple (list_code frame_code) number_code number_code (lists frame_code frames) numbers numbers))
 
 pub senders : IsCode sender_code
 senders = seen_as (pair_code name_code (pair_code (option_code number_code) value_code)) (λ (w : Waiter Value). (w.go, (w.case, w.value)))
@@ -63,8 +60,8 @@ receivers = seen_as (pair_code name_code (option_code number_code)) (λ (w : Wai
 gates : IsCode (pair_code number_code (pair_code bit_code (pair_code (list_code sender_code) (list_code receiver_code))))
 gates = pairs number_code _ numbers (triple bit_code (list_code sender_code) (list_code receiver_code) bits (lists sender_code senders) (lists receiver_code receivers))
 
-pub channels : IsCode channel_code
-channels = seen_as (pair_code (pair_code number_code (pair_code bit_code (pair_code (list_code sender_code) (list_code receiver_code)))) (pair_code number_code (list_code value_code)))
-    (λ (c : Content). ((c.capacity, (c.closed, (c.senders, c.receivers))), (c.head, c.items)))
-    (λ p. record { capacity = p.0.0; closed = p.0.1.0; senders = p.0.1.1.0; receivers = p.0.1.1.1; head = p.1.0; items = p.1.1 }) (λ c. refl)
-    (pairs _ _ gates (pairs number_code (list_code value_code) numbers (lists value_code values_told)))
+pub channels : IsCodeOf bare_channel channel_code
+channels = told_as (pair_code (pair_code number_code (pair_code bit_code (pair_code (list_code sender_code) (list_code receiver_code)))) (list_code value_code))
+    (λ (c : Content). ((c.capacity, (c.closed, (c.senders, c.receivers))), c.items))
+    (λ p. record { capacity = p.0.0; closed = p.0.1.0; senders = p.0.1.1.0; receivers = p.0.1.1.1; head = 0; items = p.1 })
+    (pairs _ _ gates (lists value_code values_told))

@@ -2,9 +2,13 @@
 use Rattle.std.specs.Prelude.{◌≡◌, ℕ, ℤ, pos, negsuc, zero, suc, nat_lt, ◌^◌, Bool, true, false, List, [], ◌∷◌, ◌++◌, Option, Some, None, if◌then◌else◌}
 use Rattle.std.specs.Int.{to_le_bytes, w64}
 
+-- where two codes begin one text, this is the same of both values, and the same follows
+abbrev pub IsCodeOf : {A B : Type 0} → (A → B) → (A → List ℕ) → Type 0
+IsCodeOf {A} view code = (x y : A) (xs ys : List ℕ) → code x ++ xs ≡ code y ++ ys → (view x ≡ view y) × (xs ≡ ys)
+
 -- where two codes begin one text, they are of one value, and the same follows
 abbrev pub IsCode : {A : Type 0} → (A → List ℕ) → Type 0
-IsCode {A} code = (x y : A) (xs ys : List ℕ) → code x ++ xs ≡ code y ++ ys → (x ≡ y) × (xs ≡ ys)
+IsCode code = IsCodeOf (λ x. x) code
 
 -- so many ones, and then a zero
 abbrev pub ones : ℕ → List ℕ

@@ -1,4 +1,5 @@
--- Codes of goroutines and channels.
+-- Codes of goroutines and channels. They leave out how many steps a goroutine took, what it printed, and how many values left the
+-- buffer of a channel.
 use Rattle.std.specs.Prelude.{ℕ, List, [], ◌∷◌, ◌++◌}
 use Rattle.gr_base.specs.declared.values.Value.{Value}
 use Rattle.gr_channels.specs.declared.waiter.Waiter.{Waiter}
@@ -21,15 +22,16 @@ status_code ready = 0 ∷ []
 status_code (waiting ws) = 1 ∷ list_code wait_code ws
 status_code finished = 2 ∷ []
 
--- the counts of its steps, of the goroutines that it started, and of the channels that it made
+-- the counts of the goroutines that it started, and of the channels that it made
 abbrev pub counts_code : CodeGoroutine → List ℕ
-counts_code g = number_code g.steps ++ (number_code g.children ++ number_code g.channels)
-
-abbrev pub text_code : List (List ℕ) → List ℕ
-text_code lines = list_code (list_code number_code) lines
+counts_code g = number_code g.children ++ number_code g.channels
 
 abbrev pub goroutine_code : CodeGoroutine → List ℕ
-goroutine_code g = status_code g.status ++ (list_code frame_code g.frames ++ (counts_code g ++ text_code g.text))
+goroutine_code g = status_code g.status ++ (list_code frame_code g.frames ++ counts_code g)
+
+-- all of a goroutine that its code tells
+abbrev pub bare_goroutine : CodeGoroutine → CodeGoroutine
+bare_goroutine g = record g { steps = 0; text = [] }
 
 abbrev pub sender_code : Waiter Value → List ℕ
 sender_code w = name_code w.go ++ (option_code number_code w.case ++ value_code w.value)
@@ -42,4 +44,8 @@ abbrev pub gate_code : Content → List ℕ
 gate_code c = number_code c.capacity ++ (bit_code c.closed ++ (list_code sender_code c.senders ++ list_code receiver_code c.receivers))
 
 abbrev pub channel_code : Content → List ℕ
-channel_code c = gate_code c ++ (number_code c.head ++ list_code value_code c.items)
+channel_code c = gate_code c ++ list_code value_code c.items
+
+-- all of a channel that its code tells
+abbrev pub bare_channel : Content → Content
+bare_channel c = record c { head = 0 }

@@ -85,11 +85,10 @@ fn write_gate(channel: &Channel, bytes: &mut Vec<u8>) -> Result<(), NoMemory>
     write_receivers(channel, bytes)
 }
 
-/// Appends the code of a channel.
+/// Appends the code of a channel, which leaves out how many values left its buffer.
 pub fn write_channel(channel: &Channel, bytes: &mut Vec<u8>) -> Result<(), NoMemory>
     ensures { OnOk result (bytes.new.items ≡ bytes.old.items ++ channel_code channel.now.content) }
 {
     write_gate(channel, bytes)?;
-    write_number(channel.head(), bytes)?;
     write_items(channel, bytes)
 }

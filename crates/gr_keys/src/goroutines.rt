@@ -2,9 +2,9 @@
 
 ghost use Rattle.std.specs.Prelude.{◌≡◌, ◌++◌, ◌∷◌, [], OnOk};
 ghost use Rattle.gr_keys.specs.ValueCodes.{channel_name_code};
-ghost use Rattle.gr_goros.specs.Views.{lines_of, status_of, wait_of, waits_of};
+ghost use Rattle.gr_goros.specs.Views.{status_of, wait_of, waits_of};
 ghost use Rattle.gr_keys.specs.Codes.{list_code, option_code, number_code};
-ghost use Rattle.gr_keys.specs.GoroutineCodes.{frame_code, status_code, counts_code, text_code, goroutine_code, wait_code};
+ghost use Rattle.gr_keys.specs.GoroutineCodes.{frame_code, status_code, counts_code, goroutine_code, wait_code};
 
 use crate::lists::{Coded, write_byte, write_list, write_option};
 use crate::numbers::write_number;
@@ -105,32 +105,19 @@ fn write_frames(goroutine: &Goroutine, bytes: &mut Vec<u8>) -> Result<(), NoMemo
     Err(NoMemory)
 }
 
-/// Appends the counts of its steps, of the goroutines that it started, and of the channels that it made.
+/// Appends the counts of the goroutines that it started, and of the channels that it made.
 fn write_counts(goroutine: &Goroutine, bytes: &mut Vec<u8>) -> Result<(), NoMemory>
     ensures { OnOk result (bytes.new.items ≡ bytes.old.items ++ counts_code goroutine.now.content) }
 {
-    write_number(goroutine.steps(), bytes)?;
     write_number(u64::from(goroutine.children()), bytes)?;
     write_number(u64::from(goroutine.channels()), bytes)
 }
 
-/// Appends the code of lines.
-fn write_text(lines: &[Vec<u8>], bytes: &mut Vec<u8>) -> Result<(), NoMemory>
-    ensures { OnOk result (bytes.new.items ≡ bytes.old.items ++ text_code (lines_of lines.now)) }
-{
-    for line in lines {
-        write_byte(1, bytes)?;
-        write_list(line.as_slice(), bytes)?;
-    }
-    write_byte(0, bytes)
-}
-
-/// Appends the code of a goroutine.
+/// Appends the code of a goroutine, which leaves out how many steps it took and what it printed.
 pub fn write_goroutine(goroutine: &Goroutine, bytes: &mut Vec<u8>) -> Result<(), NoMemory>
     ensures { OnOk result (bytes.new.items ≡ bytes.old.items ++ goroutine_code goroutine.now.content) }
 {
     goroutine.status().write(bytes)?;
     write_frames(goroutine, bytes)?;
-    write_counts(goroutine, bytes)?;
-    write_text(goroutine.text(), bytes)
+    write_counts(goroutine, bytes)
 }

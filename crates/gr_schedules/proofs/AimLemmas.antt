@@ -1,34 +1,27 @@
 -- The schedules of a program with an aim. The crates above use these lemmas too.
-use Rattle.std.proofs.Common.{◌≡◌, ◌+◌, ℕ, true, false, List, [], ◌∷◌, ◌++◌, length, map, Option, Some, None, option_map, refl, sym, ◌∙◌, ap, subst, arith}
+use Rattle.std.proofs.Common.{◌≡◌, ◌+◌, ℕ, List, [], ◌∷◌, ◌++◌, length, map, option_map, refl, sym, ◌∙◌, ap, arith}
 use Rattle.gr_base.specs.declared.events.Event.{Event}
+use Rattle.gr_base.specs.declared.objects.Object.TheVariants.{Run, Go}
 use Rattle.gr_causal.specs.Machine.{IsLog}
 use Rattle.gr_causal.proofs.PathLemmas.{Path, path_of, log_join}
 use Rattle.gr_program.specs.Programs.{Program}
-use Rattle.gr_rules.specs.Attempts.{program_is_over}
 use Rattle.gr_rules.specs.States.{State, live, ended}
-use Rattle.gr_rules.specs.Steps.{machine, refusal}
+use Rattle.gr_rules.specs.Steps.{machine}
 use Rattle.gr_laws.specs.Reached.{Logged}
-use Rattle.gr_laws.proofs.ReasonLemmas.{if_over}
-use Rattle.gr_laws.proofs.RefusalLemmas.{refused_is_no_step}
+use Rattle.gr_laws.proofs.CellLemmas.{machine_laws, run_is}
+use Rattle.gr_record.specs.Running.{IsChecked}
 use Rattle.gr_search.specs.System.{Laws, IsSafe, Leads, Reached, Runs}
 use Rattle.gr_search.specs.Bounds.{HasBad, IsSafeWithin}
 use Rattle.gr_schedules.specs.declared.Aim.{Aim}
 use Rattle.gr_schedules.specs.declared.Aim.TheVariants.{EndsBadly, EndsWell}
-use Rattle.gr_schedules.specs.Schedules.{Origin, schedules, state_after, newest_first}
+use Rattle.gr_schedules.specs.Matters.{Matter, matter}
+use Rattle.gr_schedules.specs.Schedules.{Origin, is_alone, schedules, state_after, newest_first}
 use Rattle.gr_schedules.specs.Aims.{IsAim, NoneComes, NoneComesWithin, SomeComesBy, schedules_to}
-use Rattle.gr_schedules.proofs.ScheduleLemmas.{Led, led_by, schedule_laws}
-
-none_not : {A : Type 0} (a : A) → None ≡ Some a → ⊥
-none_not a e = cc
-
-no_truth : false ≡ true → ⊥
-no_truth e = cc
-
--- nothing is possible where the program has ended
-over : (o : Origin) (s t : State) (e : Event) → s.run ≡ ended → (schedules o).next s e ≡ Some t → ⊥
-over o s t e h n =
-    let refused : refusal o.program s e ≡ Some program_is_over = if_over o.program s e (λ l. let k : ended ≡ live = sym h ∙ l in cc) in
-    none_not t (sym (ap (λ (r : Option (State × (machine o.program).Note)). option_map (λ x. x.0) r) ((refused_is_no_step o.program s e).1 (program_is_over, refused))) ∙ n)
+use Rattle.gr_schedules.proofs.ScheduleLemmas.{Led, led_by}
+use Rattle.gr_schedules.proofs.AloneLemmas.{stands_alone}
+use Rattle.gr_schedules.proofs.LikeStates.{goes_like}
+use Rattle.gr_schedules.proofs.LocalSteps.{Locals, local_laws}
+use Rattle.gr_schedules.proofs.SystemLaws.{locals, reached_by, schedule_laws}
 
 -- what leads by the schedules with an aim leads by the schedules, and the other way round
 module _ (aim : Aim) (o : Origin) where
@@ -43,20 +36,28 @@ module _ (aim : Aim) (o : Origin) where
   same_reached : (t : State) → Reached (schedules_to aim o) t → Reached (schedules o) t
   same_reached t r = record { log = r.log; leads = same_leads r.log t r.leads }
 
-well_laws : (o : Origin) → Laws (schedules_to EndsWell o)
-well_laws o =
-    let laws = schedule_laws o in
-    record {
-      alone_goes = λ s a r h. laws.alone_goes s a (same_reached EndsWell o s r) h;
-      alone_fine = λ s a r h w. let t = laws.alone_goes s a (same_reached EndsWell o s r) h in over o s t.0 a w t.1;
-      alone_apart = λ s t u a e r h. absurd (no_truth h);
-      like_next = λ s r t e i j k h. laws.like_next s r t e (same_reached EndsWell o s i) (same_reached EndsWell o r j) k h;
-      like_bad = λ s r i j k b. subst (IsAim EndsWell) k b;
-    }
+module _ (o : Origin) (checked : IsChecked o.program) where
+  -- local steps may be taken alone, too, where a good end is looked for
+  well_locals : Locals (machine o.program) (state_after o.program o.before) (IsAim EndsWell) is_alone matter Run (λ e. Go e.go)
+  well_locals = let l = locals o checked in record {
+    goes = λ s a r h. l.goes s a (same_reached EndsWell o s r) h;
+    fine = λ s a r h w. let k : ended ≡ live = sym w ∙ (stands_alone s a h).runs in cc;
+    by_looks = l.by_looks;
+    alone_there = λ s t n a e r h se. l.alone_there s t n a e (same_reached EndsWell o s r) h se;
+    apart = λ s t n a e r h se. l.apart s t n a e (same_reached EndsWell o s r) h se;
+    ends = λ s t n e f r se i. l.ends s t n e f (same_reached EndsWell o s r) se i;
+    bad_by_run = λ s t r n e reached se i b same. run_is r.run t.run same ∙ b;
+  }
 
-pub aim_laws : (aim : Aim) (o : Origin) → Laws (schedules_to aim o)
-aim_laws EndsBadly o = schedule_laws o
-aim_laws EndsWell o = well_laws o
+  well_laws : Laws (schedules_to EndsWell o)
+  well_laws = local_laws (machine o.program) (machine_laws o.program) (state_after o.program o.before) (IsAim EndsWell) is_alone matter Run (λ e. Go e.go) well_locals (record {
+    next = λ s r t e i j same h. goes_like o.program s r t e (reached_by o s (same_reached EndsWell o s i)) (reached_by o r (same_reached EndsWell o r j)) same h;
+    same_bad = λ s r i j same b. sym (ap (λ (m : Matter). m.run) same) ∙ b;
+  })
+
+pub aim_laws : (aim : Aim) (o : Origin) → IsChecked o.program → Laws (schedules_to aim o)
+aim_laws EndsBadly o checked = schedule_laws o checked
+aim_laws EndsWell o checked = well_laws o checked
 
 module _ (aim : Aim) (o : Origin) where
   abbrev p : Program

@@ -1,5 +1,5 @@
 -- The schedules of a program as a system. The crates above use these lemmas too.
-use Rattle.std.proofs.Common.{◌≡◌, true, false, List, [], ◌∷◌, ◌++◌, map, Option, Some, None, option_map, refl, sym, ◌∙◌, ap, subst}
+use Rattle.std.proofs.Common.{◌≡◌, List, [], ◌∷◌, ◌++◌, map, Option, Some, None, option_map, refl, sym, ◌∙◌, ap, subst}
 use Rattle.std.proofs.lemmas.List.{map-append}
 use Rattle.gr_base.specs.declared.events.Event.{Event}
 use Rattle.gr_causal.specs.Machine.{IsLog}
@@ -8,26 +8,14 @@ use Rattle.gr_program.specs.Programs.{Program}
 use Rattle.gr_rules.specs.States.{State, start}
 use Rattle.gr_rules.specs.Steps.{machine}
 use Rattle.gr_laws.specs.Reached.{Logged, IsRun}
-use Rattle.gr_search.specs.System.{Laws, IsSafe, Leads, Runs}
-use Rattle.gr_schedules.specs.Schedules.{Origin, IsBad, NoneEndsBadly, next_state, schedules, state_after, newest_first}
+use Rattle.gr_search.specs.System.{IsSafe, Leads, Runs}
+use Rattle.gr_schedules.specs.Schedules.{Origin, NoneEndsBadly, next_state, schedules, state_after, newest_first}
 
 some_is : {A : Type 0} (a b : A) → Some a ≡ Some b → a ≡ b
 some_is a b e = cc
 
 none_not : {A : Type 0} (a : A) → None ≡ Some a → ⊥
 none_not a e = cc
-
-no_truth : false ≡ true → ⊥
-no_truth e = cc
-
-pub schedule_laws : (o : Origin) → Laws (schedules o)
-schedule_laws o = record {
-  alone_goes = λ s a r h. absurd (no_truth h);
-  alone_fine = λ s a r h. absurd (no_truth h);
-  alone_apart = λ s t u a e r h. absurd (no_truth h);
-  like_next = λ s r t e i j k h. (t, subst (λ x. next_state o.program x e ≡ Some t) k h, refl);
-  like_bad = λ s r i j k b. subst IsBad k b;
-}
 
 module _ (p : Program) where
   abbrev events_of : List (Logged p) → List Event

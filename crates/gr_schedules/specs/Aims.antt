@@ -7,6 +7,7 @@ use Rattle.gr_rules.specs.States.{State, ended}
 use Rattle.gr_rules.specs.Steps.{machine}
 use Rattle.gr_laws.specs.Reached.{Logged}
 use Rattle.gr_search.specs.System.{System}
+use Rattle.gr_schedules.specs.Matters.{Matter}
 use Rattle.gr_schedules.specs.Schedules.{Origin, IsBad, schedules}
 use Rattle.gr_schedules.specs.declared.Aim.{Aim}
 use Rattle.gr_schedules.specs.declared.Aim.TheVariants.{EndsBadly, EndsWell}
@@ -38,5 +39,5 @@ pub record SomeComesBy (aim : Aim) (p : Program) (n : ℕ) (s : State) : Type 0 
   pub long : length some.steps ≡ n
 
 -- the schedules, as a system in which the aim is searched
-abbrev pub schedules_to : Aim → Origin → System State Event State
+abbrev pub schedules_to : Aim → Origin → System State Event Matter
 schedules_to aim o = record (schedules o) { bad = IsAim aim }

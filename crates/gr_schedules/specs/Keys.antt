@@ -1,4 +1,4 @@
--- What a key of a state is: the bytes of a listing of its goroutines and channels.
+-- What a key is: the bytes of a listing of goroutines and channels, which tell what matters of a state.
 use Rattle.std.specs.Prelude.{◌≡◌, ℕ, Bool, List, [], ◌∷◌, ◌++◌, map, if◌then◌else◌, Option, None}
 use Rattle.gr_base.specs.declared.names.ChName.{ChName}
 use Rattle.gr_base.specs.declared.kinds.Fault.{Fault}
@@ -6,13 +6,14 @@ use Rattle.gr_base.specs.declared.kinds.Fault.TheVariants.{DivideByZero, Negativ
 use Rattle.gr_channels.specs.Channels.{Content}
 use Rattle.gr_program.specs.Programs.{Program}
 use Rattle.gr_rules.specs.Operators.{same_channel}
-use Rattle.gr_rules.specs.States.{Run, live, ended, faulted, State, same_go}
+use Rattle.gr_rules.specs.States.{Run, live, ended, faulted, same_go}
 use Rattle.gr_code.specs.Goroutines.{CodeGoroutine}
 use Rattle.gr_refine.specs.Contents.{Contents}
 use Rattle.gr_record.specs.Listings.{state_in}
 use Rattle.gr_keys.specs.Codes.{option_code, list_code, pair_code}
 use Rattle.gr_keys.specs.ValueCodes.{name_code, channel_name_code}
 use Rattle.gr_keys.specs.GoroutineCodes.{goroutine_code, channel_code}
+use Rattle.gr_schedules.specs.Matters.{Matter, matter}
 
 abbrev pub fault_number : Fault → ℕ
 fault_number DivideByZero = 2
@@ -56,8 +57,8 @@ listing_code l = run_number l.run ∷ list_code goroutine_entry_code l.goroutine
 abbrev pub entries : {K X : Type 0} → (K → Option X) → List K → List (K × Option X)
 entries f names = map (λ n. (n, f n)) names
 
--- the key has the bytes of a listing of the state
-pub record IsKey (p : Program) (key : List ℕ) (s : State) : Type 0 where
+-- the key has the bytes of a listing of a state of which this matters
+pub record IsKey (p : Program) (key : List ℕ) (m : Matter) : Type 0 where
   pub listing : Listing
   pub bytes : key ≡ listing_code listing
-  pub state : s ≡ state_in p (contents_listed listing)
+  pub is : m ≡ matter (state_in p (contents_listed listing))

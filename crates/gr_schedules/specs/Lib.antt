@@ -1,3 +1,4 @@
+pub mod Matters
 pub mod Schedules
 pub mod Aims
 pub mod Names

@@ -1,14 +1,17 @@
 -- All schedules of a program from a state that it reaches, as a system that is searched.
-use Rattle.std.specs.Prelude.{◌≡◌, ◌⊎◌, ℕ, false, List, [], ◌∷◌, Option, Some, None, option_map}
+use Rattle.std.specs.Prelude.{◌≡◌, ◌⊎◌, ℕ, Bool, false, List, [], ◌∷◌, Option, Some, None, option_map}
+use Rattle.gr_base.specs.declared.events.Choice.TheVariants.{Plain}
 use Rattle.gr_base.specs.declared.events.Event.{Event}
 use Rattle.gr_base.specs.declared.kinds.Fault.{Fault}
 use Rattle.gr_causal.specs.Machine.{IsLog, replay}
 use Rattle.gr_program.specs.Programs.{Program}
+use Rattle.gr_rules.specs.LocalSteps.{is_local}
 use Rattle.gr_rules.specs.States.{State, live, faulted, start}
 use Rattle.gr_rules.specs.Steps.{machine}
 use Rattle.gr_rules.specs.Turns.{IsReady}
 use Rattle.gr_laws.specs.Reached.{Logged}
 use Rattle.gr_search.specs.System.{System}
+use Rattle.gr_schedules.specs.Matters.{Matter, matter}
 
 -- A run ends badly here: by a fault, or stuck. Then the program runs, and no goroutine is ready.
 abbrev pub IsBad : State → Type 0
@@ -30,14 +33,18 @@ state_after p es = elim (replay (machine p) (start p) es) [ Some r ↦ r.0 | Non
 abbrev pub next_state : Program → State → Event → Option State
 next_state p s e = option_map (λ r. r.0) ((machine p).step s e)
 
--- Each step of the rules is one of the system. None is taken alone, and all of a state matters.
-abbrev pub schedules : Origin → System State Event State
+-- whether the event is a local step of its goroutine, while the program runs
+abbrev pub is_alone : State → Event → Bool
+is_alone s e = elim s.run [ live ↦ elim e.choice [ Plain ↦ is_local s e.go | _ ↦ false ] | _ ↦ false ]
+
+-- Each step of the rules is one of the system. A local step may be taken alone.
+abbrev pub schedules : Origin → System State Event Matter
 schedules o = record {
   start = state_after o.program o.before;
   next = next_state o.program;
   bad = IsBad;
-  alone = λ s e. false;
-  key = λ s. s;
+  alone = is_alone;
+  key = matter;
 }
 
 -- the items the other way round, before those that are done

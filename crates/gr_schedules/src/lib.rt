@@ -23,6 +23,7 @@ ghost use Rattle.gr_schedules.specs.declared.Aim.{Aim as AimSought};
 ghost use Rattle.gr_schedules.specs.Names.{AreAll, goroutines_begun, channels_made};
 ghost use Rattle.gr_schedules.specs.Choices.{choices_of, can_act};
 ghost use Rattle.gr_schedules.specs.Keys.{IsKey};
+ghost use Rattle.gr_schedules.specs.Matters.{Matter};
 
 /// What is looked for in a state.
 #[derive(Clone, Copy)]
@@ -33,17 +34,17 @@ pub enum Aim {
     EndsWell,
 }
 
-/// The schedules of a program meet the laws of systems that are searched. Where the search finds no bad state, no run of the
-/// program from there ends badly.
+/// The schedules of a checked program meet the laws of systems that are searched: a local step may be taken alone, since no other
+/// step hinders it or depends on when it comes. Where the search finds no bad state, no run of the program from there ends badly.
 pub fn law_of_schedules()
-    ensures laws { (o : Origin) → Laws (schedules o) }
+    ensures laws { (o : Origin) → IsChecked o.program → Laws (schedules o) }
     ensures safe { (o : Origin) → IsSafe (schedules o) → NoneEndsBadly o.program (state_after o.program o.before) }
 {}
 
 /// The same for each aim: where the search finds nothing, no run of the program from there comes to the aim. Where it finds
 /// nothing within a number of steps, none of at most so many does. Where no run comes to the aim, none does after a step more.
 pub fn law_of_aims()
-    ensures laws { (aim : AimSought) (o : Origin) → Laws (schedules_to aim o) }
+    ensures laws { (aim : AimSought) (o : Origin) → IsChecked o.program → Laws (schedules_to aim o) }
     ensures safe { (aim : AimSought) (o : Origin) → IsSafe (schedules_to aim o)
         → NoneComes aim o.program (state_after o.program o.before) }
     ensures within { (aim : AimSought) (o : Origin) (n : ℕ) → IsSafeWithin (schedules_to aim o) n
@@ -54,9 +55,9 @@ pub fn law_of_aims()
         → NoneComes aim p s → NoneComes aim p t }
 {}
 
-/// A key is of one state.
+/// A key tells what matters of a state.
 pub fn law_of_keys()
-    ensures { (p : Program) (key : List ℕ) (s t : State) → IsKey p key s → IsKey p key t → s ≡ t }
+    ensures { (p : Program) (key : List ℕ) (m n : Matter) → IsKey p key m → IsKey p key n → m ≡ n }
 {}
 
 /// In a state that a run of a checked program reaches, each event that is possible is a choice of a goroutine that can act: the

@@ -3,6 +3,7 @@
 use crate::stairs::Stairs;
 use gr_search::search::{Answer, Limits, search};
 use gr_search::searched::Limit;
+use gr_search::shortest::{Shortest, search_shortest};
 use std::alloc::Global;
 use std::collections::VecDeque;
 
@@ -15,6 +16,18 @@ fn searched(alloc: Global, landing: u8, trap: u8, limits: Limits) -> (Answer, us
         way: VecDeque::new(alloc),
     };
     let answer = search(alloc, &mut stairs, &limits);
+    (answer, stairs.way.len())
+}
+
+/// The same for a search for the fewest moves.
+fn searched_shortest(alloc: Global, landing: u8, trap: u8, limits: Limits) -> (Shortest, usize) {
+    let mut stairs = Stairs {
+        landing,
+        trap,
+        place: 0,
+        way: VecDeque::new(alloc),
+    };
+    let answer = search_shortest(alloc, &mut stairs, &limits);
     (answer, stairs.way.len())
 }
 
@@ -64,4 +77,30 @@ fn limits_are_named_and_the_way_is_taken_back(rt: HostRuntime) {
     assert!(rt; matches!(answer, Answer::Limited(Limit::Turns)) && moves == 0);
     let (answer, moves) = searched(rt.alloc(), 50, 99, AMPLE);
     assert!(rt; matches!(answer, Answer::Limited(Limit::Steps)) && moves == 0);
+}
+
+#[test]
+fn the_fewest_moves_to_a_trap_are_found(rt: HostRuntime) {
+    for trap in [0, 1, 3] {
+        let (answer, moves) = searched_shortest(rt.alloc(), 5, trap, AMPLE);
+        assert!(rt; matches!(answer, Shortest::Found) && moves == trap as usize);
+    }
+    let (answer, moves) = searched_shortest(rt.alloc(), 5, 9, AMPLE);
+    assert!(rt; matches!(answer, Shortest::Nothing) && moves == 0);
+}
+
+// Each place takes three tasks, but for the last one that a bound allows, which takes one. A search of at most two moves so ends
+// with its eighth turn, and one of three does not.
+#[test]
+fn the_moves_that_are_safe_are_told(rt: HostRuntime) {
+    let limits = Limits {
+        alone: 0,
+        turns: 8,
+        ..AMPLE
+    };
+    let (answer, moves) = searched_shortest(rt.alloc(), 15, 99, limits);
+    assert!(rt; moves == 0);
+    assert!(rt;
+        matches!(answer, Shortest::Limited(told) if told.safe == 2 && told.known.is_none())
+    );
 }

@@ -1,4 +1,5 @@
-use Rattle.gr_schedules.proofs.ScheduleLemmas.{schedule_laws, safe_runs}
+use Rattle.gr_schedules.proofs.ScheduleLemmas.{safe_runs}
+use Rattle.gr_schedules.proofs.SystemLaws.{schedule_laws}
 use Rattle.gr_schedules.proofs.law_of_schedules.Goals as goal
 
 pub returns-clause-laws : goal.returns-clause-laws

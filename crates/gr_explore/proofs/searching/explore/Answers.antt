@@ -1,36 +1,5 @@
-use Rattle.std.proofs.Common.{◌≡◌, ◌∙◌, ap, length, rules, subst}
-use Rattle.gr_program.specs.Programs.{Program}
-use Rattle.gr_rollback.specs.Machines.{Stands}
-use Rattle.gr_rollback.specs.Pasts.{Timeline}
-use Rattle.gr_depend.specs.Logs.{records_of}
-use Rattle.gr_search.specs.Going.{Met}
-use Rattle.gr_schedules.specs.Schedules.{schedules}
-use Rattle.gr_schedules.specs.Choices.{AreChoices}
-use Rattle.gr_schedules.specs.Keys.{IsKey}
-use Rattle.gr_explore.specs.Exploring.{EndsBadly, IsHome, origin_of, longest_after}
-use Rattle.gr_explore.proofs.EndLemmas.{nothing_found, bad_found, all_home}
+use Rattle.gr_explore.proofs.EndLemmas.{bad_end}
 use Rattle.gr_explore.proofs.searching.explore.Goals as goal
 
-pub returns-clause-nothing : goal.returns-clause-nothing
-returns-clause-nothing c p w s e =
-    nothing_found c.args.machine.now c.search.new.machine.machine.now c.len-base.result c.search.new.machine.base (c.len-base.ensures ∙ ap (λ l. length (records_of l)) c.log.ensures) c.requires c.search.ensures.stands
-    (ap (λ f. f.1) c.search.ensures.fixed) (ap (λ f. f.2) c.search.ensures.fixed) (c.search.ensures.nothing e) p w s
-
 pub returns-clause-found : goal.returns-clause-found
-returns-clause-found c p w s e =
-    let there : c.search.new.machine.machine.now ≡ c.machine-1.given.0 = search rules in
-    subst (EndsBadly p w) there (bad_found c.args.machine.now c.search.new.machine.machine.now c.len-base.result c.search.new.machine.base (c.len-base.ensures ∙ ap (λ l. length (records_of l)) c.log.ensures) c.requires c.search.ensures.stands
-    (ap (λ f. f.1) c.search.ensures.fixed) (ap (λ f. f.2) c.search.ensures.fixed) (c.search.ensures.leads e) (c.search.ensures.found e) p w s)
-
-pub returns-clause-home : goal.returns-clause-home
-returns-clause-home c =
-    let there : c.search.new.machine.machine.now ≡ c.machine-1.given.0 = search rules in
-    subst (λ n. (p : Program) (w : Timeline p) → Stands p w c.args.machine.now → IsHome p w c.search.result n) there (all_home c.args.machine.now c.search.new.machine.machine.now c.len-base.result c.search.new.machine.base (c.len-base.ensures ∙ ap (λ l. length (records_of l)) c.log.ensures) c.requires c.search.ensures.stands
-    (ap (λ f. f.1) c.search.ensures.fixed) (ap (λ f. f.2) c.search.ensures.fixed) c.search.result c.search.ensures.home)
-
-pub returns-clause-limited : goal.returns-clause-limited
-returns-clause-limited c limit e =
-    subst (λ k.
-    Met (schedules (origin_of c.args.machine.now k)) (IsKey (origin_of c.args.machine.now k).program) (AreChoices (origin_of c.args.machine.now k).program)
-    (longest_after (origin_of c.args.machine.now k)) c.args.limits.now.states c.args.limits.now.turns limit) (c.len-base.ensures ∙ ap (λ l. length (records_of l)) c.log.ensures)
-    (c.search.ensures.limited limit e)
+returns-clause-found c p w s e = bad_end p w c.explore_for.new.machine (c.explore_for.ensures.found p w s e)
