@@ -15,6 +15,7 @@ from rewind_client.errors import ProcessError, RewindError
 from rewind_client.finding import start
 from rewind_client.program import Program, read_program
 
+from .choosers import chooser_of
 from .outcomes import Judge, Kind, Outcome, Spot
 from .schedules import End, Scheduler
 
@@ -57,6 +58,25 @@ class Plan:
     expected: Optional[Pattern[str]] = None
     ignored: tuple[Kind, ...] = ()
     stop: bool = False
+    # The schedulers, each of which takes so many schedules; without one they are taken in several manners.
+    schedulers: tuple[str, ...] = ()
+
+    def numbers(self) -> list[int]:
+        """The schedules that are taken: those of each scheduler, one after the other."""
+        by_chance = [getattr(chooser_of(name), "takes_chance", True) for name in self.schedulers] or [True]
+        shares = [range(at * self.runs, at * self.runs + (self.runs if takes else 1)) for at, takes in enumerate(by_chance)]
+        return [number for share in shares for number in share]
+
+    def scheduler_of(self, number: int) -> str:
+        """The scheduler of a schedule, or an empty text."""
+        return self.schedulers[number // self.runs] if self.schedulers else ""
+
+    def scheduler(self, program: Program) -> Scheduler:
+        made = Scheduler(self.begin, program, self.seed, self.most_steps)
+        if self.schedulers:
+            choosers = {name: chooser_of(name) for name in self.schedulers}
+            made.chooser_of = lambda number: choosers.get(self.scheduler_of(number))
+        return made
 
     def begin(self) -> Core:
         """Starts a process."""
@@ -205,7 +225,7 @@ class Hunter:
     """One process that takes schedules."""
 
     def __init__(self, plan: Plan) -> None:
-        self.scheduler = Scheduler(plan.begin, plan.program(), plan.seed, plan.most_steps)
+        self.scheduler = plan.scheduler(plan.program())
         self.judge = Judge(self.scheduler)
 
     def outcome(self, number: int) -> Outcome:
@@ -216,7 +236,7 @@ def here(plan: Plan) -> Outcomes:
     """The outcomes one after the other, by this process."""
     hunter = Hunter(plan)
     try:
-        for number in range(plan.runs):
+        for number in plan.numbers():
             yield hunter.outcome(number)
     finally:
         hunter.scheduler.end()
@@ -229,7 +249,7 @@ def in_processes(plan: Plan) -> Outcomes:
     """
     try:
         pool = ProcessPoolExecutor(plan.jobs, initializer=ignore_interrupts)
-        outcomes = pool.map(Share(plan), range(plan.runs), chunksize=max(SHARE, plan.runs // MOST_SHARES))
+        outcomes = pool.map(Share(plan), plan.numbers(), chunksize=max(SHARE, plan.runs // MOST_SHARES))
     except (OSError, NotImplementedError, ImportError):
         yield from here(plan)
         return

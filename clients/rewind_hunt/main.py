@@ -1,8 +1,9 @@
 """The program `rewind-hunt`: a hunt in each file, and its report."""
 from __future__ import annotations
 
+import json
 import sys
-from collections.abc import Iterable
+from collections.abc import Iterable, Sequence
 from typing import Optional, TextIO
 
 from rewind_client.carried import left_of
@@ -15,8 +16,9 @@ from rewind_shell.saving import write_script
 
 from .files import File, readable
 from .hunting import Found, Hunt, hunt
-from .options import Wanted, wanted
+from .options import Form, Wanted, wanted
 from .outcomes import Kind
+from .records import Record, Told, failure, record_of, sarif
 from .report import CHANCE, Report
 from .scripts import Reducer
 from .shortening import Short, Shortener
@@ -39,8 +41,35 @@ def main(words: list[str]) -> int:
             return NOTHING
     except RewindError as fault:
         return failed(str(fault))
+    if given.form is not Form.TEXT:
+        return recorded(given)
     statuses = [in_file(given, name, number) for number, name in enumerate(given.files)]
+    return worst(statuses)
+
+
+def worst(statuses: Sequence[int]) -> int:
     return next(status for status in WORST if status in statuses)
+
+
+def recorded(given: Wanted) -> int:
+    """Hunts in all files, and writes what was found as data: the exit status."""
+    records = []
+    for name in given.files:
+        records.append(record_in(given, name))
+        if given.form is Form.JSON:
+            say([json.dumps(records[-1])])
+    if given.form is Form.SARIF:
+        say([json.dumps(sarif(records, version_of(given.rewind)), indent=1)])
+    return worst([record["status"] for record in records])
+
+
+def record_in(given: Wanted, name: str) -> Record:
+    """What is found in one file, or why nothing was hunted there."""
+    try:
+        with readable(name) as file:
+            return Teller(given, file).record()
+    except RewindError as fault:
+        return failure(name, FAULT, str(fault).replace("\n", " "))
 
 
 def failed(why: str) -> int:
@@ -84,11 +113,28 @@ class Teller:
         print(f"rewind-hunt: {program.told()}", file=sys.stderr)
         return program
 
-    def status(self) -> int:
-        """Tells all of it: the exit status."""
-        progress = Progress(self.plan.runs, sys.stderr)
+    def hunted(self) -> Hunt:
+        progress = Progress(len(self.plan.numbers()), sys.stderr)
         found = hunt(self.plan, progress.told)
         progress.clear()
+        return found
+
+    def record(self) -> Record:
+        """All of it as data."""
+        found = self.hunted()
+        report, reducer, told = Report(found, self.program, True), Reducer(found, self.program), []
+        try:
+            for one, outcomes in found.groups().items():
+                short = Shortener(reducer, one, outcomes).short()
+                way = Ways(reducer, short.commands, one).search().way if short and one.kind is not Kind.UNENDED else None
+                told.append(Told(one, outcomes, short, way))
+        finally:
+            reducer.end()
+        return record_of(found, told, report, SOMETHING if told else OPEN if found.is_open() else NOTHING)
+
+    def status(self) -> int:
+        """Tells all of it: the exit status."""
+        found = self.hunted()
         report = Report(found, self.program, self.given.full)
         say(report.summary())
         bad = list(found.groups())

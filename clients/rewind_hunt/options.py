@@ -5,11 +5,13 @@ import argparse
 import os
 import re
 from collections.abc import Callable, Sequence
+from enum import Enum
 from typing import NamedTuple, NoReturn, Optional, Pattern
 
 from rewind_client.errors import RewindError
 from rewind_client.finding import find_rewind
 
+from .choosers import CHOOSERS, FILE, chooser_of
 from .files import File, check_names
 from .hunting import Plan
 from .outcomes import Kind
@@ -21,6 +23,14 @@ other than --expect."
 EPILOGUE = "Exit status: 0 where nothing bad was found, 1 where something was, 2 where the command line, FILE or rewind is at fault, \
 and 3 where nothing bad was found but the outputs differ and no --expect says which is right. Of several FILEs the worst counts: 2, \
 then 1, then 3."
+
+
+class Form(Enum):
+    """How a hunt tells what it found."""
+
+    TEXT = "text"
+    JSON = "json"
+    SARIF = "sarif"
 
 
 class Parser(argparse.ArgumentParser):
@@ -45,12 +55,14 @@ class Wanted(NamedTuple):
     each: bool
     full: bool
     script: Optional[str]
+    schedulers: tuple[str, ...]
+    form: Form
     version: bool
 
     def plan(self, file: File) -> Plan:
         """The hunt in one of the files."""
         jobs = min(self.jobs, self.runs)
-        settings = (self.runs, self.seed, jobs, self.most_steps, self.expected, self.ignored, self.stop)
+        settings = (self.runs, self.seed, jobs, self.most_steps, self.expected, self.ignored, self.stop, self.schedulers)
         return Plan(self.rewind, file.path, file.name, *settings)
 
 
@@ -68,6 +80,12 @@ def parser() -> Parser:
     made.add_argument("--each", action="store_true", help="show the commands to each different output, also where it is not bad")
     made.add_argument("--full", action="store_true", help="show all that was found, and each step of the scripts")
     made.add_argument("--script", metavar="FILE", help="write the commands to the first thing found to a file")
+    choosers = f"who chooses: {', '.join(CHOOSERS)}, or a file of Python; may be given more than once"
+    made.add_argument("--scheduler", action="append", default=[], metavar="NAME", help=choosers)
+    forms = made.add_mutually_exclusive_group()
+    as_json = "write what was found as JSON, an object for each FILE in a line"
+    forms.add_argument("--json", action="store_const", const="json", dest="form", default="text", help=as_json)
+    forms.add_argument("--sarif", action="store_const", const="sarif", dest="form", help="write what was found as SARIF 2.1.0")
     made.add_argument("--rewind", metavar="PATH", help="the rewind to take")
     made.add_argument("--version", action="store_true", help="print the version of the rewind that is taken")
     return made
@@ -96,7 +114,8 @@ def wanted(words: Sequence[str]) -> Wanted:
     rewind = find_rewind(given.rewind)
     return Wanted(
         given.files, rewind, given.runs, given.seed, given.jobs, given.steps, pattern(given.expect), kinds(given.ignore), given.stop,
-        given.each, given.full, given.script, given.version,
+        given.each, given.full, given.script, schedulers(given.scheduler),
+        Form(given.form), given.version,
     )  # fmt: skip
 
 
@@ -115,6 +134,13 @@ def pattern(text: Optional[str]) -> Optional[Pattern[str]]:
         return re.compile(text, re.MULTILINE) if text is not None else None
     except re.error as fault:
         raise RewindError(f"--expect has a pattern that means nothing: {fault}") from None
+
+
+def schedulers(names: Sequence[str]) -> tuple[str, ...]:
+    """The schedulers that are named, each once; a file by its whole path."""
+    for name in names:
+        chooser_of(name)
+    return tuple(dict.fromkeys(os.path.abspath(name) if name.endswith(FILE) else name for name in names))
 
 
 def kinds(text: str) -> tuple[Kind, ...]:

@@ -1,6 +1,7 @@
 """What a hunt found, in words."""
 from __future__ import annotations
 
+import os
 import re
 import shlex
 from collections.abc import Iterator, Sequence
@@ -58,6 +59,8 @@ class Report:
         yield f"{count} of {self.plan.name}, seed {self.plan.seed}, in {self.found.seconds:.1f} seconds"
         yield ""
         yield from self.table()
+        if self.plan.schedulers:
+            yield from ["", *self.by_scheduler()]
         remarks = [*self.servers(), *(self.question() if self.found.is_open() else ())]
         if remarks:
             yield from ["", *remarks]
@@ -74,6 +77,16 @@ class Report:
         rest = rows[len(told) :]
         if rest:
             yield f"{sum(len(outcomes) for _, outcomes in rest):6}  in {counted(len(rest), 'way')} more: --full shows them"
+
+    def by_scheduler(self) -> Iterator[str]:
+        """A row for each scheduler: how many of its schedules are bad, which is the first, and how many steps they take."""
+        width = max(len("scheduler"), *(len(os.path.basename(name)) for name in self.plan.schedulers))
+        yield f"{'scheduler':{width}}  schedules    bad  first bad  steps"
+        for name in self.plan.schedulers:
+            own = [it for it in self.found.outcomes if self.plan.scheduler_of(it.number) == name]
+            bad = [at for at, it in enumerate(own, 1) if not self.found.is_well(it)]
+            steps = f"{sum(it.steps for it in own) // max(1, len(own)):5}"
+            yield f"{os.path.basename(name):{width}}  {len(own):9}  {len(bad):5}  {bad[0] if bad else '-':>9}  {steps}"
 
     def how(self, row: Row, outcomes: Sequence[Outcome]) -> str:
         """How the schedules of a row ended, and at which lines."""

@@ -9,6 +9,7 @@ from collections.abc import Callable, Iterable, Sequence
 from dataclasses import dataclass, field
 from enum import Enum
 from random import Random
+from typing import Optional
 
 from rewind_client import replies
 from rewind_client.core import Core, step_command, step_words
@@ -16,6 +17,9 @@ from rewind_client.errors import RewindError
 from rewind_client.names import child_of, step_owner
 from rewind_client.program import Program
 from rewind_client.replies import Entry, KindWord
+
+from .choosers import Chooser, Make
+from .choosing import WAKING, Choosing
 
 FIRST_PORTION = 16
 PORTION = 48
@@ -28,8 +32,6 @@ FIRST_CHANGES = 200
 # A process is started anew before its journal, which takes 2,000,000 commands, is full.
 MOST_COMMANDS = 1_500_000
 NO_ROOM = frozenset(("no Q1", "no Q2", "no N6"))
-# After a step of these kinds a goroutine that waited may be ready.
-WAKING = frozenset((KindWord.HAND, KindWord.MEET, KindWord.TAKE, KindWord.PICK, KindWord.CLOSE))
 
 
 class Manner(Enum):
@@ -99,6 +101,10 @@ class Scheduler:
     def __init__(self, begin: Callable[[], Core], program: Program, seed: int, most_steps: int) -> None:
         """`begin` starts a process; a schedule of more than `most_steps` steps is unended."""
         self.begin = begin
+        self.program = program
+        # What makes the chooser of a number, where schedulers are named; and how many steps a round robin takes.
+        self.chooser_of: Callable[[int], Optional[Make]] = no_chooser
+        self.usual_steps = 0
         self.seed = seed
         self.most_steps = most_steps
         self.clauses = max((it.clause for function in program.functions.values() for it in function.operations), default=0)
@@ -115,6 +121,10 @@ class Scheduler:
         self.go_to_start()
         self.schedule = Schedule()
         self.random = Random(f"{self.seed}/{number}")
+        make = self.chooser_of(number)
+        if make:
+            self.by_chooser(make)
+            return self.schedule
         manners = {Manner.TURNS: self.by_turns, Manner.EVENLY: self.evenly, Manner.BURSTS: self.in_bursts, Manner.RANKS: self.by_ranks}
         manners[self.manner_of(number)]()
         return self.schedule
@@ -171,6 +181,16 @@ class Scheduler:
             self.schedule.end = End.DEADLOCK
             return True
         return False
+
+    def by_chooser(self, make: Make) -> None:
+        """As a scheduler chooses. How many steps there are to choose is seen of a round robin, once."""
+        if not self.usual_steps:
+            self.by_turns()
+            self.usual_steps = len(self.schedule.entries)
+            self.go_to_start()
+            self.schedule = Schedule()
+        if Choosing(self, self.program, made(make, self.random, self.usual_steps)).take():
+            self.schedule.end = End.DEADLOCK
 
     # Manners.
 
@@ -234,3 +254,16 @@ class Scheduler:
             blocked.clear()
         elif not taken or taken[-1].kind.waits:
             blocked.add(name)
+
+
+def no_chooser(_number: int) -> Optional[Make]:
+    """No scheduler is named."""
+    return None
+
+
+def made(make: Make, random: Random, steps: int) -> Chooser:
+    """A chooser, which a user may have written."""
+    try:
+        return make(random, steps)
+    except Exception as fault:  # whatever a scheduler of a user does
+        raise RewindError(f"the scheduler cannot be made: {type(fault).__name__}: {fault}") from None

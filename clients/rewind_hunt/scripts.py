@@ -40,7 +40,7 @@ class Reducer:
         self.begin = hunted.plan.begin
         self.program = program
         self.most_steps = hunted.plan.most_steps
-        self.scheduler = Scheduler(self.begin, program, hunted.plan.seed, self.most_steps)
+        self.scheduler = hunted.plan.scheduler(program)
         self.judge = Judge(self.scheduler)
 
     def end(self) -> None:

@@ -23,7 +23,7 @@ RUN = {"cat", "printf", "echo", "grep", "head", "tail", "diff", "wc", "sort", HU
 TIMING = re.compile(r"in [0-9]+\.[0-9] seconds$")
 # Commands that change the machine or want a person: only the files that they name are looked for.
 NAMED = set(
-    "apt apt-get bin/rewind-carry cd chmod code cp curl docker emacs export git hx install ln ls man mkdir mv nvim python3 rlwrap rm rt "
+    "apt apt-get bin/rewind-carry cd chmod code cp curl docker emacs export git hx install ln ls man mkdir mv nvim parallel python3 rlwrap rm rt "
     "sha256sum sudo tar tee unzip wget xdg-open".split()
 )
 # Folders of the archive of a release, and where their files stand in the repository.
