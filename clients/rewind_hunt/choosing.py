@@ -47,13 +47,14 @@ class Choosing:
         """What the chooser says, if that is one of the goroutines that are ready."""
         try:
             goroutine, case = self.chooser.choose(ready)
+            choice = Choice(goroutine, int(case))
         except RewindError:
             raise
         except Exception as fault:  # whatever a scheduler of a user does
             raise RewindError(f"the scheduler has failed: {type(fault).__name__}: {fault}") from None
-        if goroutine not in self.ready:
+        if goroutine not in list(self.ready):
             raise RewindError(f"the scheduler chose {str(goroutine)[:40]}, which is not ready")
-        return Choice(goroutine, int(case))
+        return choice
 
     def cases_of(self, name: str, line: int) -> tuple[int, ...]:
         """The cases of a select that can proceed: each is tried and taken back."""

@@ -132,6 +132,8 @@ WRONG = {
     f"{HEAD}return 'g7', 0\n": "the scheduler chose g7, which is not ready",
     f"{HEAD}return 1 / 0\n": "the scheduler has failed: ZeroDivisionError",
     f"{HEAD}return ready[0].goroutine, 9\n": "cannot proceed: 9",
+    f"{HEAD}return ready[0].goroutine, 'x'\n": "the scheduler has failed: ValueError",
+    f"{HEAD}return ['g0'], 0\n": "which is not ready",
     "x = 1\n": "has no class with a method 'choose'",
     "class A:\n    choose = 1\nclass B:\n    choose = 1\n": "has 2 classes with a method 'choose'",
     "def f(:\n": "cannot be taken as a scheduler: SyntaxError",
