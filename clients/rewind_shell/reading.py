@@ -4,6 +4,7 @@ from __future__ import annotations
 import importlib
 import importlib.util
 import os
+import signal
 import sys
 from collections.abc import Iterable
 from typing import TYPE_CHECKING, Protocol
@@ -17,6 +18,7 @@ if TYPE_CHECKING:
     from prompt_toolkit.completion import CompleteEvent, Completer, Completion
     from prompt_toolkit.document import Document
 
+INTERRUPT = frozenset((signal.SIGINT,))
 MISSING = (
     "history, completion and Ctrl-R need prompt_toolkit, which this Python does not have: apt-get install python3-prompt-toolkit"
 )
@@ -76,9 +78,18 @@ class RichReader:
         )
 
     def read(self, prompt: str) -> str:
+        """Ctrl-C waits until the prompt is there: a loop of asyncio that it meets while it is made would be left half made."""
         from prompt_toolkit.formatted_text import FormattedText
 
-        return self.session.prompt(FormattedText([("bold" if self.has_colours else "", prompt)]))
+        signal.pthread_sigmask(signal.SIG_BLOCK, INTERRUPT)
+        try:
+            return self.session.prompt(FormattedText([("bold" if self.has_colours else "", prompt)]), pre_run=let_interrupts_in)
+        finally:
+            let_interrupts_in()
+
+
+def let_interrupts_in() -> None:
+    signal.pthread_sigmask(signal.SIG_UNBLOCK, INTERRUPT)
 
 
 def completer_of(completing: Completing) -> Completer:
