@@ -183,8 +183,8 @@ class Shell:
             number = sum(it.state is not State.DONE for it in session.goroutines())
             if not number:
                 return "The program has ended, and every goroutine is done."
-            were = "1 goroutine was" if number == 1 else f"{number} goroutines were"
-            return f"The program has ended. {were} not done when main returned ('why' tells what they would do)."
+            were, who = ("1 goroutine was", "it") if number == 1 else (f"{number} goroutines were", "they")
+            return f"The program has ended. {were} not done when main returned ('why' tells what {who} would do)."
         if standing is Standing.DEADLOCK:
             names = [it.name for it in session.goroutines() if it.state is State.WAITING]
             named = ", ".join(names[:8]) + (", .." if len(names) > 8 else "")
