@@ -72,11 +72,8 @@ class Plan:
         return self.schedulers[number // self.runs] if self.schedulers else ""
 
     def scheduler(self, program: Program) -> Scheduler:
-        made = Scheduler(self.begin, program, self.seed, self.most_steps)
-        if self.schedulers:
-            choosers = {name: chooser_of(name) for name in self.schedulers}
-            made.chooser_of = lambda number: choosers.get(self.scheduler_of(number))
-        return made
+        choosers = {name: chooser_of(name) for name in self.schedulers}
+        return Scheduler(self.begin, program, self.seed, self.most_steps, lambda number: choosers.get(self.scheduler_of(number)))
 
     def begin(self) -> Core:
         """Starts a process."""

@@ -95,15 +95,25 @@ class Schedule:
         return [child_of(name, self.started.get(name, 0) + more) for name in self.live for more in range(1, NEXT_CHILDREN + 1)]
 
 
+def no_chooser(_number: int) -> Optional[Make]:
+    """No scheduler is named."""
+    return None
+
+
 class Scheduler:
     """Takes schedules in a process, one after the other."""
 
-    def __init__(self, begin: Callable[[], Core], program: Program, seed: int, most_steps: int) -> None:
-        """`begin` starts a process; a schedule of more than `most_steps` steps is unended."""
+    def __init__(
+        self, begin: Callable[[], Core], program: Program, seed: int, most_steps: int, chooser_of: Callable[[int], Optional[Make]] = no_chooser
+    ) -> None:
+        """`begin` starts a process, and a schedule of more than `most_steps` steps is unended.
+
+        `chooser_of` gives what makes the chooser of a number; without it schedules are taken in several manners.
+        """
         self.begin = begin
         self.program = program
-        # What makes the chooser of a number, where schedulers are named; and how many steps a round robin takes.
-        self.chooser_of: Callable[[int], Optional[Make]] = no_chooser
+        self.chooser_of = chooser_of
+        # How many steps a round robin takes.
         self.usual_steps = 0
         self.seed = seed
         self.most_steps = most_steps
@@ -254,11 +264,6 @@ class Scheduler:
             blocked.clear()
         elif not taken or taken[-1].kind.waits:
             blocked.add(name)
-
-
-def no_chooser(_number: int) -> Optional[Make]:
-    """No scheduler is named."""
-    return None
 
 
 def made(make: Make, random: Random, steps: int) -> Chooser:

@@ -30,10 +30,7 @@ def hunted(rewind: str, *words: str) -> "subprocess.CompletedProcess[str]":
 
 
 def scheduler(rewind: str, path: Path, name: str) -> Scheduler:
-    made = Scheduler(lambda: start(rewind, str(path)), read_program(str(path)), 1, STEPS)
-    make = CHOOSERS[name]
-    made.chooser_of = lambda number: make
-    return made
+    return Scheduler(lambda: start(rewind, str(path)), read_program(str(path)), 1, STEPS, lambda number: CHOOSERS[name])
 
 
 def names(chooser: Chooser, *ready: Sequence[str]) -> list[str]:
