@@ -1,0 +1,11 @@
+pub mod Given
+pub mod FitValues
+pub mod FitParts
+pub mod FitPoints
+pub mod FitFrames
+pub mod FitDeeds
+pub mod FitAttempts
+pub mod FitCommunications
+pub mod FitSteps
+pub mod FitRuns
+pub mod DeadLemmas

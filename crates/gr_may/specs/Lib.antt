@@ -1,0 +1,5 @@
+pub mod Uses
+pub mod Demands
+pub mod Covers
+pub mod MayStill
+pub mod Dead
