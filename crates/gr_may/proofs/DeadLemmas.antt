@@ -1,6 +1,5 @@
 -- Goroutines that wait, and that only goroutines among them may serve, stay as they are.
 use Rattle.std.proofs.Common.{◌≡◌, ◌⊎◌, ℕ, ◌+◌, Bool, true, false, List, [], ◌∷◌, ◌++◌, map, take, Option, Some, None, refl, sym, ◌∙◌, ap, subst, inl, inr}
-use Rattle.std.specs.Prelude.{option_and_then}
 use Rattle.std.specs.List.{list_any}
 use Rattle.std.proofs.lemmas.Bool.{cases_Bool}
 use Rattle.std.proofs.lemmas.Option.{none-some}
@@ -13,20 +12,19 @@ use Rattle.gr_base.specs.declared.objects.Object.{Object}
 use Rattle.gr_base.specs.declared.objects.Object.TheVariants.{Go, Gate}
 use Rattle.gr_causal.specs.Rules.{Note}
 use Rattle.gr_causal.specs.Sequences.{In}
-use Rattle.gr_causal.proofs.ListLemmas.{some_is, true_or_false, In-append_cases, In-of_map}
+use Rattle.gr_causal.proofs.ListLemmas.{true_or_false, In-append_cases, In-of_map}
 use Rattle.gr_causal.proofs.PathLemmas.{Path}
 use Rattle.gr_channels.specs.declared.waiter.Waiter.{Waiter}
 use Rattle.gr_channels.specs.Objects.{GateContent}
 use Rattle.gr_program.specs.Programs.{Program}
-use Rattle.gr_rules.specs.Goroutines.{Wait, ToSend, ToReceive, channel_of, Status, ready, waiting, finished, Goroutine}
-use Rattle.gr_rules.specs.States.{Run, live, ended, faulted, Cell, go_has, State, same_go, look}
+use Rattle.gr_rules.specs.Goroutines.{Wait, ToSend, ToReceive, channel_of, Status, waiting, Goroutine}
+use Rattle.gr_rules.specs.States.{Run, live, ended, faulted, Cell, go_has, State, same_go}
 use Rattle.gr_rules.specs.Attempts.{Refusal, Operation, sends_on, receives_from, takes_len_of, takes_cap_of, closes, Report}
 use Rattle.gr_rules.specs.Communications.{once}
 use Rattle.gr_rules.specs.Steps.{machine, refusal}
 use Rattle.gr_rules.specs.Touches.{senders_at, receivers_at, slot_numbered, slot_at_head, woken, waits_at, taken, with_channel, without_channel, row, table}
 use Rattle.gr_laws.specs.Reached.{Logged}
 use Rattle.gr_laws.specs.Soundness.{Sound, SoundWaits, Stands}
-use Rattle.gr_laws.specs.Refusals.{HasStatus}
 use Rattle.gr_laws.proofs.AttemptTouches.{touched_as}
 use Rattle.gr_laws.proofs.CellLemmas.{go_name, machine_laws}
 use Rattle.gr_laws.proofs.ReasonLemmas.{if_over, if_unknown, if_waits}
@@ -34,8 +32,7 @@ use Rattle.gr_laws.proofs.RefusalLemmas.{refused_is_no_step}
 use Rattle.gr_laws.proofs.RuleSound.{after_sound}
 use Rattle.gr_laws.proofs.RuleWaits.{stepped}
 use Rattle.gr_laws.proofs.TouchedLemmas.{slot_is}
-use Rattle.gr_may.specs.Uses.{Use, to_send, to_receive, to_close, Usage}
-use Rattle.gr_may.specs.Covers.{Covers}
+use Rattle.gr_may.specs.Uses.{to_close, Usage}
 use Rattle.gr_may.specs.Dead.{answer, MayServe, WaitsFor, AreDead}
 use Rattle.gr_may.proofs.FitAttempts.{OperationFits, Begins}
 use Rattle.gr_may.proofs.FitRuns.{Within, step_within}

@@ -1,5 +1,5 @@
 -- Attempts at a step from a state that bounds cover: what they write is within the bounds, and so is what they do with a channel.
-use Rattle.std.proofs.Common.{◌≡◌, ℕ, ◌+◌, ◌%◌, ◌==◌, Bool, true, false, if◌then◌else◌, List, [], ◌∷◌, ◌++◌, map, filter, Option, Some, None, option_map, refl, sym, subst, inl, inr}
+use Rattle.std.proofs.Common.{◌≡◌, ℕ, ◌+◌, ◌%◌, ◌==◌, Bool, true, false, if◌then◌else◌, List, [], ◌∷◌, ◌++◌, filter, Option, Some, None, option_map, refl, sym, subst, inl, inr}
 use Rattle.std.specs.Prelude.{option_and_then}
 use Rattle.gr_base.specs.declared.names.ChName.{ChName}
 use Rattle.gr_base.specs.declared.values.Value.{Value}
@@ -10,7 +10,6 @@ use Rattle.gr_base.specs.declared.objects.Object.{Object}
 use Rattle.gr_causal.specs.Sequences.{In}
 use Rattle.gr_channels.specs.declared.waiter.Waiter.{Waiter}
 use Rattle.gr_channels.specs.Objects.{GateContent}
-use Rattle.gr_channels.specs.Queues.{is_of, others}
 use Rattle.gr_program.specs.Programs.{Program}
 use Rattle.gr_rules.specs.Outcomes.{Outcome, gives, faults, wrong, ◌>>=◌}
 use Rattle.gr_rules.specs.Frames.{Frame}
@@ -18,7 +17,7 @@ use Rattle.gr_rules.specs.Deeds.{past}
 use Rattle.gr_rules.specs.Goroutines.{Wait, Status, ready, waiting, finished, Goroutine}
 use Rattle.gr_rules.specs.States.{Cell, run_has, go_has, gate_has, tail_has, head_has, slot_has, State, look}
 use Rattle.gr_rules.specs.Attempts.{Refusal, Operation, Attempt, refuse, perform, ask, if_there, ask_gate, room_for, ask_room, ask_item}
-use Rattle.gr_rules.specs.Actors.{Actor, with_frames, onward, does, fault, given as given_by, if_gives, without, if_waiting, ask_waiter, ask_withdrawn, met, ask_met}
+use Rattle.gr_rules.specs.Actors.{Actor, onward, does, fault, given as given_by, if_gives, without, if_waiting, ask_waiter, ask_withdrawn, met, ask_met}
 use Rattle.gr_may.specs.Uses.{Use, Usage, Shared}
 use Rattle.gr_may.specs.Covers.{AwaitsResultOf, ReturnsTo, FrameFits, FramesFit, StatusFits, GoFits, Covers}
 use Rattle.gr_may.specs.MayStill.{use_of}

@@ -1,23 +1,21 @@
 -- Communications and `close` keep within bounds.
-use Rattle.std.proofs.Common.{fold, ◌≡◌, ℕ, ◌+◌, ◌%◌, Bool, true, false, if◌then◌else◌, List, [], ◌∷◌, ◌++◌, map, Option, Some, None, option_map, refl, sym, subst, inl, inr}
-use Rattle.std.specs.List.{flat_map}
+use Rattle.std.proofs.Common.{fold, ◌≡◌, ℕ, ◌+◌, ◌%◌, Bool, true, false, if◌then◌else◌, List, [], ◌∷◌, ◌++◌, map, Option, Some, None, refl, sym, subst, inl, inr}
 use Rattle.gr_base.specs.declared.names.ChName.{ChName}
 use Rattle.gr_base.specs.declared.values.Value.{Value}
 use Rattle.gr_base.specs.declared.kinds.Fault.TheVariants.{SendOnClosed, CloseOfClosed, CloseOfNil}
 use Rattle.gr_base.specs.declared.kinds.Kind.{Kind}
-use Rattle.gr_base.specs.declared.kinds.Kind.TheVariants.{Hand, Buffer, Take, Meet, Closed, SendWait, RecvWait, Close}
-use Rattle.gr_causal.specs.Sequences.{In}
+use Rattle.gr_base.specs.declared.kinds.Kind.TheVariants.{Hand, Buffer, Take, Meet, Closed, SendWait, RecvWait}
 use Rattle.gr_causal.proofs.ListLemmas.{In-append_cases}
 use Rattle.gr_channels.specs.declared.waiter.Waiter.{Waiter}
 use Rattle.gr_channels.specs.Objects.{GateContent}
-use Rattle.gr_rules.specs.Outcomes.{Outcome, gives, faults, wrong}
+use Rattle.gr_rules.specs.Outcomes.{gives, faults, wrong}
 use Rattle.gr_rules.specs.Operators.{same_channel}
 use Rattle.gr_rules.specs.Frames.{goes_on}
 use Rattle.gr_rules.specs.Deeds.{Communication, Sending, Receiving, Otherwise}
-use Rattle.gr_rules.specs.Goroutines.{Wait, channel_of, ready, waiting, Goroutine}
+use Rattle.gr_rules.specs.Goroutines.{Wait, channel_of, ready, Goroutine}
 use Rattle.gr_rules.specs.States.{Cell, go_has, gate_has, tail_has, head_has, slot_has, State}
 use Rattle.gr_rules.specs.Attempts.{Operation, sends_on, receives_from, closes, Attempt}
-use Rattle.gr_rules.specs.Actors.{Actor, onward, does, without, channels_but}
+use Rattle.gr_rules.specs.Actors.{Actor, without, channels_but}
 use Rattle.gr_rules.specs.Communications.{proceeds, send_to, send, take, receive_from, receive, communicate, waits_for, all_waits, enqueued, ask_enqueued, wait, proceed_or_wait, once, ask_waiters, close_open, close}
 use Rattle.gr_may.specs.Uses.{to_send, to_receive, to_close, Usage, Shared}
 use Rattle.gr_may.specs.Covers.{wish, WaitsFit, GoFits}

@@ -1,25 +1,23 @@
 -- What the next step of a frame within bounds asks for is within them.
-use Rattle.std.proofs.Common.{◌≡◌, ℕ, Bool, if◌then◌else◌, List, [], ◌∷◌, Option, Some, None, true, refl, sym, subst}
+use Rattle.std.proofs.Common.{◌≡◌, ℕ, if◌then◌else◌, List, [], ◌∷◌, Option, Some, None, true, refl, sym, subst}
 use Rattle.gr_base.specs.declared.names.ChName.{ChName}
 use Rattle.gr_base.specs.declared.values.Value.{Value}
 use Rattle.gr_base.specs.declared.values.Value.TheVariants.{Int, Bool as Truth, Unit as Empty, Chan}
-use Rattle.gr_causal.specs.Sequences.{In}
 use Rattle.gr_program.specs.Programs.{Cases, no_case, default_case, send_case, receive_case, Program}
-use Rattle.gr_rules.specs.Outcomes.{Outcome, gives, faults, wrong, ◌>>=◌}
-use Rattle.gr_rules.specs.Operators.{operate}
-use Rattle.gr_rules.specs.Operands.{Operand, Done, Variable, Operands, nothing, also, value_of}
+use Rattle.gr_rules.specs.Outcomes.{◌>>=◌}
+use Rattle.gr_rules.specs.Operands.{Operand, Variable, Operands, nothing, also}
 use Rattle.gr_rules.specs.Parts as parts
 use Rattle.gr_rules.specs.Parts.{Ask, Calls, CountsItems, CountsPlaces, Decides, Next, Plain, Asks, next_of}
 use Rattle.gr_rules.specs.Evaluation.{evaluate, evaluate_all}
-use Rattle.gr_rules.specs.Points.{Work, Assign, AssignReceive, Update, Eval, Close, Print, Send, Go, Return, GoOn, Astray, Test, Range, Turn, Select, point_after}
-use Rattle.gr_rules.specs.Frames.{Frame, assigned, moved, goes_on, filled}
-use Rattle.gr_rules.specs.Deeds.{Communication, Sending, Receiving, Otherwise, Deed, Moves, Prints, Enters, Leaves, Starts, Makes, TakesLen, TakesCap, Closes, Communicates, Chooses, as_channel, as_int, as_truth, only, texts, clauses_of, part_of, work_of, statement_of, deed_by, deed}
+use Rattle.gr_rules.specs.Points.{Work, Assign, AssignReceive, Update, Eval, Close, Print, Send, Go, Return, GoOn, Astray, Test, Range, Turn, Select}
+use Rattle.gr_rules.specs.Frames.{Frame}
+use Rattle.gr_rules.specs.Deeds.{Communication, Sending, Receiving, Otherwise, Deed, Moves, Prints, Enters, Leaves, Starts, Makes, TakesLen, TakesCap, Closes, Communicates, Chooses, as_channel, as_int, as_truth, only, texts, clauses_of, work_of, statement_of, deed_by, deed}
 use Rattle.gr_may.specs.Uses.{Use, to_send, to_receive, to_close, to_count, to_share, Uses, no_use, Usage, MayUse, Shared, target}
 use Rattle.gr_may.specs.Uses as bounds
 use Rattle.gr_may.specs.Demands.{parameter_uses, clause_uses, OperandFits, OperandsFit, work_uses, WorkFits, RestFits}
 use Rattle.gr_may.specs.Covers.{Calling, AwaitsResultOf, FrameFits}
-use Rattle.gr_may.proofs.Given.{IfGives, given, faulty, stray, then_gives, in_any_case, gives_less, if_either}
-use Rattle.gr_may.proofs.FitValues.{only_self, no_channel_may, literal_shared, sent_shared, operate_plain, ValuesFit, Holds, evaluate_fits, evaluate_all_fits}
+use Rattle.gr_may.proofs.Given.{IfGives, given, stray, then_gives, in_any_case, gives_less, if_either}
+use Rattle.gr_may.proofs.FitValues.{only_self, no_channel_may, literal_shared, sent_shared, operate_plain, ValuesFit, evaluate_fits, evaluate_all_fits}
 use Rattle.gr_may.proofs.FitParts.{NextFits, plain, asks, nexts_fit}
 use Rattle.gr_may.proofs.FitPoints.{after_fits}
 use Rattle.gr_may.proofs.FitFrames.{On, assigned_holds, moved_on, goes_on_fits, goes_on_with, filled_on}

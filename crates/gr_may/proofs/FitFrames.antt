@@ -1,26 +1,25 @@
 -- Frames within bounds stay so as they go on.
-use Rattle.std.proofs.Common.{◌≡◌, ℕ, zero, suc, ◌-◌, Bool, true, false, if◌then◌else◌, List, [], ◌∷◌, map, length, replicate, Option, Some, None, refl, sym, ap, subst, ◌⊎◌, inl, inr}
+use Rattle.std.proofs.Common.{◌≡◌, ℕ, zero, suc, ◌-◌, Bool, true, false, List, [], ◌∷◌, map, length, replicate, Option, Some, None, refl, sym, ap, subst, ◌⊎◌, inl, inr}
 use Rattle.std.specs.Prelude.{slice_get, slice_set}
-use Rattle.gr_scan.specs.declared.token.Place.{Place}
 use Rattle.gr_base.specs.declared.values.Value.{Value}
 use Rattle.gr_base.specs.declared.values.Value.TheVariants.{Bool as Truth}
 use Rattle.std.proofs.lemmas.Option.{none-some}
 use Rattle.gr_causal.proofs.ListLemmas.{some_is}
-use Rattle.gr_program.specs.Programs.{Stmts, Cases, no_case, default_case, send_case, receive_case, Parameter, Function, FunctionIs, Program, ProgramIs}
-use Rattle.gr_rules.specs.Outcomes.{Outcome, gives, faults, wrong, ◌>>=◌}
-use Rattle.gr_rules.specs.Operands.{Operand, Done, Operands, nothing, also, two}
-use Rattle.gr_rules.specs.Parts.{Ask, Calls, Receives, Makes, CountsItems, CountsPlaces, Decides, Next, Plain, Asks, next_of}
+use Rattle.gr_program.specs.Programs.{Stmts, Cases, no_case, default_case, send_case, receive_case, Function, FunctionIs, Program, ProgramIs}
+use Rattle.gr_rules.specs.Outcomes.{wrong, ◌>>=◌}
+use Rattle.gr_rules.specs.Operands.{Done, Operands, nothing, also, two}
+use Rattle.gr_rules.specs.Parts.{Calls, Receives, Makes, CountsItems, CountsPlaces, Decides, Next, Plain, Asks, next_of}
 use Rattle.gr_rules.specs.Evaluation.{Variables}
-use Rattle.gr_rules.specs.Points.{Rest, closing, following, ranging, chosen, Work, Assign, AssignReceive, Update, Eval, Close, Print, Send, Go, Return, GoOn, Astray, Test, Range, Turn, Select, Point, onto, point_after}
+use Rattle.gr_rules.specs.Points.{Rest, closing, Work, AssignReceive, Send, Turn, Select, Point, onto}
 use Rattle.gr_rules.specs.Frames.{Frame, written, assigned, variable_of, called, moved, goes_on, is_over, filled}
-use Rattle.gr_rules.specs.Deeds.{resumed_by, resumed, turned, past_statement, past_next, body_after, clause_point, past_case, cases_from, cases_at, past}
+use Rattle.gr_rules.specs.Deeds.{resumed_by, resumed, past_statement, past_next, body_after, clause_point, past_case, cases_from, cases_at, past}
 use Rattle.gr_rules.specs.States.{call_of}
 use Rattle.gr_may.specs.Uses.{Uses, no_use, Usage, MayUse, Shared, target}
-use Rattle.gr_may.specs.Demands.{function_at, uses_of_parameters, parameter_uses, OperandsFit, OperandsFitAt, work_uses, StmtsFit, CasesFit, RestFits, WorkFits, PointFits}
+use Rattle.gr_may.specs.Demands.{function_at, uses_of_parameters, parameter_uses, OperandsFit, work_uses, StmtsFit, CasesFit, RestFits, WorkFits, PointFits}
 use Rattle.gr_may.specs.Covers.{Calling, AwaitsResultOf, FrameFits, FunctionFits}
-use Rattle.gr_may.proofs.Given.{IfGives, given, faulty, stray, then_gives, if_either}
+use Rattle.gr_may.proofs.Given.{IfGives, given, stray, then_gives, if_either}
 use Rattle.gr_may.proofs.FitValues.{GotFits, shared_may, ValuesFit, Holds}
-use Rattle.gr_may.proofs.FitParts.{Allowed, NextFits, plain, asks, nexts_fit}
+use Rattle.gr_may.proofs.FitParts.{NextFits, plain, asks, nexts_fit}
 use Rattle.gr_may.proofs.FitPoints.{onto_fits, after_fits}
 
 -- what a variable holds once another value is put into one

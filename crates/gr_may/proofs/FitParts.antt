@@ -1,5 +1,5 @@
 -- The next part of operands within bounds, and the operands once it has a value.
-use Rattle.std.proofs.Common.{◌≡◌, ℕ, Bool, true, false, if◌then◌else◌, List, [], ◌∷◌, refl}
+use Rattle.std.proofs.Common.{ℕ, List, [], ◌∷◌}
 use Rattle.gr_tree.specs.declared.expr.BinaryOp.{BinaryOp}
 use Rattle.gr_base.specs.declared.values.Value.{Value}
 use Rattle.gr_program.specs.Programs.{Program}

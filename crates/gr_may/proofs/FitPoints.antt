@@ -1,12 +1,11 @@
 -- What remains of a function within bounds leads to points within them.
-use Rattle.std.proofs.Common.{◌≡◌, ℕ, zero, suc, true, List, [], ◌∷◌, Option, Some, None}
+use Rattle.std.proofs.Common.{ℕ, zero, suc, List, Option, Some, None}
 use Rattle.gr_scan.specs.declared.token.Place.{Place}
 use Rattle.gr_program.specs.Programs as program
 use Rattle.gr_program.specs.Programs.{Expr, Act, Opening, Opens, Stmt, Does, Block, If, For, Stmts, stop, then, Cases, Program}
-use Rattle.gr_rules.specs.Operands.{one}
 use Rattle.gr_rules.specs.Points.{Rest, closing, following, looping, ranging, chosen, Point, onto, outside, next_turn, going_on, act_at, opened, turn, first_of, first_in, point_after}
-use Rattle.gr_may.specs.Uses.{Uses, no_use, Usage}
-use Rattle.gr_may.specs.Demands.{OperandFits, ActFits, OpeningFits, ConditionFits, StmtFits, StmtsFit, CasesFit, RestFits, PointFits}
+use Rattle.gr_may.specs.Uses.{Uses, Usage}
+use Rattle.gr_may.specs.Demands.{ActFits, OpeningFits, StmtFits, StmtsFit, RestFits, PointFits}
 use Rattle.gr_may.proofs.Given.{IfSome, there, absent, some_or, some_else}
 use Rattle.gr_may.proofs.FitValues.{literal_shared}
 

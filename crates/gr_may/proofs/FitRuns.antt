@@ -1,5 +1,5 @@
 -- Bounds that cover a state cover all that a run leads to, and its steps are within them.
-use Rattle.std.proofs.Common.{fold, ◌≡◌, ℕ, Bool, true, false, List, [], ◌∷◌, ◌++◌, Option, Some, None, refl, sym, ◌∙◌, ap, subst, inl, inr}
+use Rattle.std.proofs.Common.{fold, ◌≡◌, ℕ, true, List, [], ◌∷◌, ◌++◌, Option, Some, None, refl, sym, ◌∙◌, subst, inl, inr}
 use Rattle.std.specs.Prelude.{option_and_then, nat_eq}
 use Rattle.std.proofs.lemmas.Bool.{cases_Bool}
 use Rattle.std.proofs.lemmas.Option.{none-some}
@@ -7,12 +7,10 @@ use Rattle.gr_base.specs.declared.names.ChName.{ChName}
 use Rattle.gr_base.specs.declared.values.Value.{Value}
 use Rattle.gr_base.specs.declared.events.Event.{Event}
 use Rattle.gr_base.specs.declared.objects.Object.{Object}
-use Rattle.gr_causal.specs.Machine.{IsLog}
 use Rattle.gr_causal.specs.Rules.{Plan, Note, plan, carried, with_read}
 use Rattle.gr_causal.specs.Sequences.{In}
 use Rattle.gr_causal.proofs.ListLemmas.{some_is}
-use Rattle.gr_causal.proofs.PathLemmas.{Path, path_of}
-use Rattle.gr_channels.specs.declared.waiter.Waiter.{Waiter}
+use Rattle.gr_causal.proofs.PathLemmas.{Path}
 use Rattle.gr_channels.specs.Objects.{GateContent}
 use Rattle.gr_program.specs.Programs.{Program}
 use Rattle.gr_rules.specs.Operators.{same_channel}
@@ -27,7 +25,7 @@ use Rattle.gr_laws.proofs.CellLemmas.{go_is, channel_is}
 use Rattle.gr_laws.proofs.RuleSound.{after_sound}
 use Rattle.gr_may.specs.Uses.{Use, Usage, Shared}
 use Rattle.gr_may.specs.Covers.{wish, StatusFits, GoFits, Covers}
-use Rattle.gr_may.specs.MayStill.{Starts, itself, further, UsesSo, use_of}
+use Rattle.gr_may.specs.MayStill.{Starts, itself, further, use_of}
 use Rattle.gr_may.proofs.FitAttempts.{CellFits, CellsFit, UseFits, OperationFits, Begins, Keeps}
 use Rattle.gr_may.proofs.FitSteps.{attempt_keeps}
 

@@ -1,5 +1,5 @@
 -- Each rule keeps within bounds.
-use Rattle.std.proofs.Common.{◌≡◌, ℕ, zero, suc, ℤ, pos, negsuc, ◌+◌, ◌-◌, nat_le, Bool, true, false, if◌then◌else◌, List, [], ◌∷◌, ◌++◌, length, ◌||◌, is_some, Option, Some, None, refl, sym, ◌∙◌, ap, subst, arith, inl, inr}
+use Rattle.std.proofs.Common.{◌≡◌, ℕ, zero, suc, ℤ, pos, negsuc, ◌+◌, ◌-◌, nat_le, Bool, false, if◌then◌else◌, List, [], ◌∷◌, ◌++◌, length, ◌||◌, is_some, Option, Some, None, refl, sym, ◌∙◌, ap, subst, arith}
 use Rattle.gr_base.specs.declared.names.ChName.{ChName}
 use Rattle.gr_base.specs.declared.values.Value.{Value}
 use Rattle.gr_base.specs.declared.values.Value.TheVariants as values
@@ -10,28 +10,27 @@ use Rattle.gr_base.specs.declared.kinds.Fault.TheVariants.{BadSize, CallDepth, N
 use Rattle.gr_base.specs.declared.kinds.Kind.TheVariants as kinds
 use Rattle.std.proofs.lemmas.Option.{none-some}
 use Rattle.gr_causal.proofs.ListLemmas.{some_is}
-use Rattle.gr_channels.specs.Objects.{GateContent, has_any}
+use Rattle.gr_channels.specs.Objects.{has_any}
 use Rattle.gr_program.specs.Programs.{Program}
 use Rattle.gr_rules.specs.Outcomes.{Outcome, gives, faults, wrong}
 use Rattle.gr_rules.specs.Frames.{Frame, goes_on}
-use Rattle.gr_rules.specs.Deeds.{Communication, Sending, Receiving, Otherwise, Deed, Moves, Prints, Enters, Leaves, Starts, Makes, TakesLen, TakesCap, Closes, Communicates, Chooses, deed, past}
+use Rattle.gr_rules.specs.Deeds.{Communication, Sending, Receiving, Otherwise, Deed, Moves, Prints, Enters, Leaves, Starts, Makes, TakesLen, TakesCap, Closes, Communicates, Chooses, deed}
 use Rattle.gr_rules.specs.Goroutines.{Status, ready, waiting, finished, Goroutine, started}
 use Rattle.gr_rules.specs.States.{Run, live, ended, faulted, go_has, State, call_of}
-use Rattle.gr_rules.specs.Attempts.{no_such_choice, Refusal, Operation, takes_len_of, takes_cap_of, Attempt, refuse, ask_go, ask_gate}
-use Rattle.gr_rules.specs.Actors.{Actor, with_frames, onward, simply, fault, given as given_by, clause_at}
-use Rattle.gr_rules.specs.Communications.{wait}
+use Rattle.gr_rules.specs.Attempts.{no_such_choice, Refusal, Operation, takes_len_of, takes_cap_of, Attempt, refuse, ask_go}
+use Rattle.gr_rules.specs.Actors.{Actor, onward, simply, fault, given as given_by, clause_at}
 use Rattle.gr_rules.specs.Selects.{values_of, ask_ready, if_none_ready, pick, default_from, numbered, default, park, choose}
 use Rattle.gr_rules.specs.Limits.{most_places, most_counts, greatest_count}
 use Rattle.gr_rules.specs.Steps.{is_deepest, enter, finish, leave, child, if_absent, go, new_channel, make, counted, take_len, take_cap, print, act, act_by, act_in, if_ready, if_known, if_live, attempt}
 use Rattle.gr_laws.specs.Soundness.{made_by, Sound}
-use Rattle.gr_may.specs.Uses.{to_count, to_close, Uses, Usage, MayUse, Shared}
+use Rattle.gr_may.specs.Uses.{to_count, Uses, Usage, MayUse}
 use Rattle.gr_may.specs.Demands.{parameter_uses}
 use Rattle.gr_may.specs.Covers.{AwaitsResultOf, ReturnsTo, FrameFits, FramesFit, GoFits, Covers}
-use Rattle.gr_may.proofs.Given.{IfGives, given, faulty, stray, in_any_case}
+use Rattle.gr_may.proofs.Given.{IfGives, given, in_any_case}
 use Rattle.gr_may.proofs.FitValues.{ValuesFit}
 use Rattle.gr_may.proofs.FitFrames.{On, called_fits, goes_on_fits, resumed_on, returned_on, past_on}
 use Rattle.gr_may.proofs.FitDeeds.{MayDo, CommunicationFits, ClausesFit, DeedFits, deed_fits}
-use Rattle.gr_may.proofs.FitAttempts.{OperationFits, Begins, Keeps, K, refused, asked, if_keeps, gate_keeps, room_keeps, item_keeps, returns_same, Acts, G, all_frames, onward_fits, does_keeps, fault_keeps, given_keeps}
+use Rattle.gr_may.proofs.FitAttempts.{OperationFits, Begins, K, refused, asked, if_keeps, gate_keeps, room_keeps, item_keeps, returns_same, Acts, G, all_frames, onward_fits, does_keeps, fault_keeps, given_keeps}
 use Rattle.gr_may.proofs.FitCommunications.{NumberedFit, communicate_keeps, wait_keeps, alone_keeps, close_keeps}
 
 -- values that one goroutine may use so, another may that is permitted the same

@@ -1,5 +1,5 @@
 -- Values within bounds, and what operands evaluate to.
-use Rattle.std.proofs.Common.{◌≡◌, ℕ, ℤ, pos, negsuc, Bool, true, false, if◌then◌else◌, List, [], ◌∷◌, Option, Some, None, refl, sym, ◌∙◌}
+use Rattle.std.proofs.Common.{◌≡◌, ℕ, ℤ, pos, negsuc, Bool, true, false, List, [], ◌∷◌, Option, Some, None, refl, sym, ◌∙◌}
 use Rattle.std.specs.Prelude.{slice_get, int_div, int_rem}
 use Rattle.std.specs.Ordering.{int_eq}
 use Rattle.gr_tree.specs.declared.expr.UnaryOp.{UnaryOp}
@@ -8,16 +8,14 @@ use Rattle.gr_tree.specs.declared.expr.BinaryOp.{BinaryOp}
 use Rattle.gr_tree.specs.declared.expr.BinaryOp.TheVariants as binaries
 use Rattle.gr_const.specs.Bits.{shift_left, shift_right}
 use Rattle.gr_base.specs.declared.names.ChName.{ChName}
-use Rattle.gr_base.specs.declared.kinds.Fault.TheVariants.{DivideByZero}
 use Rattle.gr_base.specs.declared.values.Value.{Value}
 use Rattle.gr_base.specs.declared.values.Value.TheVariants.{Int, Bool as Truth, Unit as Empty, Chan}
 use Rattle.gr_program.specs.Programs.{Literal, Number, Empty as Void, Nil, Program}
 use Rattle.gr_program.specs.Programs as program
-use Rattle.gr_rules.specs.Outcomes.{Outcome, gives, faults, ◌>>=◌}
-use Rattle.gr_rules.specs.Operators.{int, divided, shifted, on_ints, compared, on_truths, operate, apply, settles}
+use Rattle.gr_rules.specs.Operators.{divided, shifted, on_ints, compared, on_truths, operate, apply, settles}
 use Rattle.gr_rules.specs.Operands.{Operand, Done, Variable, Unary, Binary, Receive, Call, Len, Cap, Make, Decided, Operands, nothing, also, value_of}
 use Rattle.gr_rules.specs.Evaluation.{Variables, held, evaluate, evaluate_all}
-use Rattle.gr_may.specs.Uses.{Use, to_send, to_receive, to_close, to_count, to_share, Uses, no_use, only, Within, Usage, MayUse, Shared}
+use Rattle.gr_may.specs.Uses.{Use, to_send, to_receive, to_close, to_count, to_share, Uses, only, Within, Usage, MayUse, Shared}
 use Rattle.gr_may.specs.Demands.{OperandFits, OperandsFit}
 use Rattle.gr_may.proofs.Given.{IfGives, given, faulty, stray, then_gives, in_any_case, gives_less, if_either}
 

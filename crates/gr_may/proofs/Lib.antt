@@ -9,3 +9,4 @@ pub mod FitCommunications
 pub mod FitSteps
 pub mod FitRuns
 pub mod DeadLemmas
+pub mod LeakLemmas

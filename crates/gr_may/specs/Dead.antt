@@ -1,6 +1,6 @@
 -- Goroutines that wait for ever, while others may still go on. Of a set of goroutines that wait, none is served by one outside it:
 -- Holt, "Some deadlock properties of computer systems" (1972), for goroutines and channels in place of processes and resources.
-use Rattle.std.specs.Prelude.{◌≡◌, ◌⊎◌, ℕ, Bool, true, false, List, Option, Some}
+use Rattle.std.specs.Prelude.{◌≡◌, ◌⊎◌, ℕ, Bool, true, false, List, Some}
 use Rattle.gr_causal.specs.Sequences.{In}
 use Rattle.gr_program.specs.Programs.{Program}
 use Rattle.gr_rules.specs.Goroutines.{Wait, ToSend, ToReceive, channel_of, waiting, Goroutine}

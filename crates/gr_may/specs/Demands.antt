@@ -7,7 +7,7 @@ use Rattle.gr_program.specs.Programs.{Expr, Act, Opening, Opens, Stmt, Does, Blo
 use Rattle.gr_rules.specs.Operands.{Operand, Done, Variable, Unary, Binary, Receive, Call, Len, Cap, Make, Decided, Operands, nothing, also, operand_of}
 use Rattle.gr_rules.specs.Points.{Rest, closing, following, looping, ranging, chosen, Work, Assign, AssignReceive, Close, Send, Go, Return, Test, Range, Turn, Select, Point, act_at, case_operands}
 use Rattle.gr_rules.specs.Frames.{variable_of}
-use Rattle.gr_may.specs.Uses.{Use, to_send, to_receive, to_close, to_count, to_share, Uses, no_use, only, Within, Usage, MayUse, Shared, target}
+use Rattle.gr_may.specs.Uses.{to_send, to_receive, to_close, to_count, to_share, Uses, no_use, only, Within, Usage, MayUse, Shared, target}
 
 abbrev pub function_at : Program → ℕ → Option Function
 function_at (ProgramIs functions main) k = slice_get functions k

@@ -3,3 +3,4 @@ pub mod Demands
 pub mod Covers
 pub mod MayStill
 pub mod Dead
+pub mod Example

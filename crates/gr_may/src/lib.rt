@@ -1,7 +1,7 @@
 //! What a goroutine may still do with a channel, and which goroutines wait for ever. Laws, each on a function that does nothing.
 #![tactic(auto)]
 
-ghost use Rattle.std.specs.Prelude.{◌≡◌, ℕ, List, true, Some};
+ghost use Rattle.std.specs.Prelude.{◌≡◌, ℕ, List, []};
 ghost use Rattle.gr_base.specs.declared.names.ChName.{ChName};
 ghost use Rattle.gr_causal.specs.Sequences.{In};
 ghost use Rattle.gr_causal.specs.Machine.{IsLog};
@@ -15,6 +15,7 @@ ghost use Rattle.gr_may.specs.Uses.{Use, Usage};
 ghost use Rattle.gr_may.specs.Covers.{Covers, wish};
 ghost use Rattle.gr_may.specs.MayStill.{MayStill, Starts, UsesSo};
 ghost use Rattle.gr_may.specs.Dead.{IsDead};
+ghost use Rattle.gr_may.specs.Example.{leaks, leaked, made, reader};
 
 /// What a goroutine may still do only shrinks along a run: bounds that cover a state cover each that a run leads to. A use of a
 /// channel that it leaves out is made in no run from the state, by no step of the goroutine or of what it starts. Nor does one of
@@ -36,4 +37,11 @@ pub fn law_of_the_dead()
         → Reached p s → IsDead p s n → IsLog (machine p) s steps t → In r steps → ¬ (r.event.go ≡ n) }
     ensures stays { (p : Program) (s t : State) (steps : List (Logged p)) (n : List ℕ)
         → Reached p s → IsDead p s n → IsLog (machine p) s steps t → t.goroutines n ≡ s.goroutines n }
+{}
+
+/// A worked example. `main` has started a reader, and goes on without the channel. It may still do nothing with the channel, and
+/// the reader waits for ever.
+pub fn example_of_the_dead()
+    ensures left_out { (u : Use) → ¬ MayStill leaks leaked [] made u }
+    ensures dead { IsDead leaks leaked reader }
 {}

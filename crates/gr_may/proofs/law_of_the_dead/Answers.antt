@@ -1,4 +1,4 @@
-use Rattle.std.proofs.Common.{◌≡◌, Bool, true, false, sym, ◌∙◌, ap}
+use Rattle.std.proofs.Common.{◌≡◌, true, false, sym, ◌∙◌, ap}
 use Rattle.gr_causal.proofs.PathLemmas.{path_of}
 use Rattle.gr_rules.specs.Steps.{machine}
 use Rattle.gr_laws.proofs.RuleSound.{reached_sound}
