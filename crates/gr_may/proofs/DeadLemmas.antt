@@ -288,3 +288,9 @@ module _ (p : Program) (usage : Usage) (dead : List ℕ → Bool) where
   all_stay s t (q ∷ qs) m are sound waits w d =
       all_stay w.0 t qs m (still_dead s w.0 q.event q.note are sound waits w.1.does) (after_sound p s sound q.event w.0 q.note w.1.does)
       (stepped p s sound waits q.event w.0 q.note w.1.does).0 w.2 d ∙ stays s w.0 q.event q.note are sound waits w.1.does m d
+
+  pub dead_later : (s t : State) (steps : List (Logged p)) → AreDead p usage s dead → Sound s → SoundWaits s → Path (machine p) s steps t → AreDead p usage t dead
+  dead_later s t [] are sound waits w = subst (λ s. AreDead p usage s dead) w are
+  dead_later s t (q ∷ qs) are sound waits w =
+      dead_later w.0 t qs (still_dead s w.0 q.event q.note are sound waits w.1.does) (after_sound p s sound q.event w.0 q.note w.1.does)
+      (stepped p s sound waits q.event w.0 q.note w.1.does).0 w.2

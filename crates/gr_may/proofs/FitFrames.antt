@@ -78,8 +78,14 @@ module _ (p : Program) (usage : Usage) (n : List ℕ) where
       by_found q (Some (FunctionIs name parameters result variables body last)) code h =
           then_gives (assigned_holds (usage.variables k) (map variable_of parameters) vs (replicate (length variables) None) h
           (λ x v e. absurd (none_held (length variables) x v e)))
-          (λ held o. given (record { uses = usage.variables k; held = o;
-          stands = after_fits p usage n (usage.variables k) k (onto body (closing last)) (onto_fits p usage n (usage.variables k) k body (closing last) (code (FunctionIs name parameters result variables body last) refl n) tt) }, refl))
+          (λ held o. given (
+            record {
+              uses = usage.variables k;
+              held = o;
+              stands = after_fits p usage n (usage.variables k) k (onto body (closing last)) (onto_fits p usage n (usage.variables k) k body (closing last) (code (FunctionIs name parameters result variables body last) refl n) tt);
+            },
+            refl,
+          ))
 
       by_program : (q : Program) → ((f : Function) → function_at q k ≡ Some f → FunctionFits p usage k f)
           → ValuesFit usage n (parameter_uses q usage k) vs → IfGives (λ f. F f × (f.function ≡ k)) (call_of q k vs)
@@ -150,8 +156,11 @@ module _ (p : Program) (usage : Usage) (n : List ℕ) where
     past_work (AssignReceive value ok initial) operands (Some got) w o g =
         given (moved_on _ (record { operands = values_for (map (target h.uses) (value ∷ ok ∷ [])) got.0 got.1 g; work = tt; rest = h.stands.rest }))
     past_work (Turn t body) (also c nothing) (Some (v, true)) w o g =
-        given (moved_on _ (record { operands = (shared_may usage n (target h.uses t) v g, tt); work = tt;
-        rest = onto_fits p usage n h.uses f.function body _ w (o.0, w, h.stands.rest) }))
+        given (moved_on _ (record {
+          operands = (shared_may usage n (target h.uses t) v g, tt);
+          work = tt;
+          rest = onto_fits p usage n h.uses f.function body _ w (o.0, w, h.stands.rest);
+        }))
     past_work (Turn t body) (also c nothing) (Some (v, false)) w o g = given (moved_on _ (record { operands = tt; work = tt; rest = h.stands.rest }))
     past_work _ operands got w o g = stray
 

@@ -95,17 +95,35 @@ module _ (p : Program) (usage : Usage) where
 
   put_cell : (s : State) (x : Cell) → Covers p usage s → CellFits p usage x → Covers p usage (put s x)
   put_cell s (run_has r) c f = record {
-    code = c.code; goroutines = c.goroutines; sharing = c.sharing; queued = c.queued; buffered = c.buffered; unstarted = c.unstarted; unmade = c.unmade;
+    code = c.code;
+    goroutines = c.goroutines;
+    sharing = c.sharing;
+    queued = c.queued;
+    buffered = c.buffered;
+    unstarted = c.unstarted;
+    unmade = c.unmade;
   }
   put_cell s (go_has n None) c f = absurd f
   put_cell s (go_has n (Some g)) c f = put_go s n g c f
   put_cell s (gate_has d None) c f = absurd f
   put_cell s (gate_has d (Some gate)) c f = put_gate s d gate c f
   put_cell s (tail_has d k) c f = record {
-    code = c.code; goroutines = c.goroutines; sharing = c.sharing; queued = c.queued; buffered = c.buffered; unstarted = c.unstarted; unmade = c.unmade;
+    code = c.code;
+    goroutines = c.goroutines;
+    sharing = c.sharing;
+    queued = c.queued;
+    buffered = c.buffered;
+    unstarted = c.unstarted;
+    unmade = c.unmade;
   }
   put_cell s (head_has d k) c f = record {
-    code = c.code; goroutines = c.goroutines; sharing = c.sharing; queued = c.queued; buffered = c.buffered; unstarted = c.unstarted; unmade = c.unmade;
+    code = c.code;
+    goroutines = c.goroutines;
+    sharing = c.sharing;
+    queued = c.queued;
+    buffered = c.buffered;
+    unstarted = c.unstarted;
+    unmade = c.unmade;
   }
   put_cell s (slot_has d i item) c f = put_slot s d i item c f
 

@@ -10,3 +10,5 @@ pub mod FitSteps
 pub mod FitRuns
 pub mod DeadLemmas
 pub mod LeakLemmas
+pub mod MeetLemmas
+pub mod Together

@@ -1,7 +1,7 @@
 //! What a goroutine may still do with a channel, and which goroutines wait for ever. Laws, each on a function that does nothing.
 #![tactic(auto)]
 
-ghost use Rattle.std.specs.Prelude.{◌≡◌, ℕ, List, []};
+ghost use Rattle.std.specs.Prelude.{◌≡◌, ℕ, true, List, []};
 ghost use Rattle.gr_base.specs.declared.names.ChName.{ChName};
 ghost use Rattle.gr_causal.specs.Sequences.{In};
 ghost use Rattle.gr_causal.specs.Machine.{IsLog};
@@ -30,13 +30,17 @@ pub fn law_of_uses()
         → MayStill p s n (channel_of w) (wish w) }
 {}
 
-/// A goroutine of the greatest set of those that wait and that only members may serve steps again in no run from the state, and
-/// stays as it is.
+/// A goroutine of a set of those that wait and that only members may serve steps again in no run from the state. It stays as it is,
+/// and in such a set. Any two such goroutines are in one such set, so all of them are.
 pub fn law_of_the_dead()
     ensures steps { (p : Program) (s t : State) (steps : List (Logged p)) (r : Logged p) (n : List ℕ)
         → Reached p s → IsDead p s n → IsLog (machine p) s steps t → In r steps → ¬ (r.event.go ≡ n) }
     ensures stays { (p : Program) (s t : State) (steps : List (Logged p)) (n : List ℕ)
         → Reached p s → IsDead p s n → IsLog (machine p) s steps t → t.goroutines n ≡ s.goroutines n }
+    ensures remains { (p : Program) (s t : State) (steps : List (Logged p)) (n : List ℕ)
+        → Reached p s → IsDead p s n → IsLog (machine p) s steps t → IsDead p t n }
+    ensures together { (p : Program) (s : State) (m n : List ℕ) → IsDead p s m → IsDead p s n
+        → (d : IsDead p s m) × (d.dead n ≡ true) }
 {}
 
 /// A worked example. `main` has started a reader, and goes on without the channel. It may still do nothing with the channel, and
