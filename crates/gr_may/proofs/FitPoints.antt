@@ -53,7 +53,7 @@ module _ (p : Program) (usage : Usage) (n : List ℕ) (uses : ℕ → Uses) (fun
   goes_there place (Some rest) (there r) = record { operands = tt; work = tt; rest = r }
   goes_there place None absent = record { operands = tt; work = tt; rest = tt }
 
-  act_fits : (place : Place) (act : Act) (rest : Rest) → ActFits p usage n uses function place act → R rest → P (act_at place act rest)
+  pub act_fits : (place : Place) (act : Act) (rest : Rest) → ActFits p usage n uses function place act → R rest → P (act_at place act rest)
   act_fits place (program.Assign targets values) rest h r = record { operands = h; work = tt; rest = r }
   act_fits place (program.AssignReceive value ok channel initial) rest h r = record { operands = h; work = literal_shared usage initial; rest = r }
   act_fits place (program.Update variable op value) rest h r = record { operands = h; work = tt; rest = r }
@@ -70,7 +70,7 @@ module _ (p : Program) (usage : Usage) (n : List ℕ) (uses : ℕ → Uses) (fun
   opened_fits None s here rest o h r t = t
   opened_fits (Some (Opens place act)) s here rest o h r t = act_fits place act (following (then s stop) rest) o ((h, tt), r)
 
-  turn_fits : (post : Option Opening) (s : Stmt) → Opened post → S s → Ss (turn post s)
+  pub turn_fits : (post : Option Opening) (s : Stmt) → Opened post → S s → Ss (turn post s)
   turn_fits None s o h = (h, tt)
   turn_fits (Some (Opens place act)) s o h = (o, (h, tt))
 

@@ -27,7 +27,7 @@ pub record AreDead (p : Program) (usage : Usage) (s : State) (dead : List ℕ �
   pub alone : (n : List ℕ) (ws : List Wait) (w : Wait) (m : List ℕ) (g : Goroutine)
       → dead n ≡ true → WaitsFor s n ws → In w ws → s.goroutines m ≡ Some g → dead m ≡ false → ¬ MayServe usage m w
 
--- it is one of the greatest of such sets, which has the members of all
+-- it is in such a set, and so in the greatest, which has the members of all
 pub record IsDead (p : Program) (s : State) (n : List ℕ) : Type 0 where
   pub usage : Usage
   pub dead : List ℕ → Bool

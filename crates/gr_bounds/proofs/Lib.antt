@@ -1,0 +1,9 @@
+pub mod Unplugging
+pub mod PartPaths
+pub mod ActUses
+pub mod StatementUses
+pub mod StatementPointsFit
+pub mod Filled
+pub mod FrameLemmas
+pub mod Returning
+pub mod ContentsLemmas

@@ -1,0 +1,2 @@
+pub mod CodeUses
+pub mod CoveredContents
