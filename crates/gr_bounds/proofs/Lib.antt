@@ -7,3 +7,4 @@ pub mod Filled
 pub mod FrameLemmas
 pub mod Returning
 pub mod ContentsLemmas
+pub mod DeadContentsLemmas

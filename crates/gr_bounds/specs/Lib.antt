@@ -1,2 +1,3 @@
 pub mod CodeUses
 pub mod CoveredContents
+pub mod DeadContents
