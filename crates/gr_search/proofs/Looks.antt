@@ -8,6 +8,10 @@ use Rattle.gr_search.specs.declared.search.Task.TheVariants.{TakeBack}
 use Rattle.gr_search.proofs.Arrivals.{known_there, new_tries}
 use Rattle.gr_search.proofs.Seen.{has, keeps, only, same}
 
+-- what holds of two things holds of what they are equal to
+pub of_same : {F S : Type 0} (P : F → S → Type 0) (f g : F) (s t : S) → f ≡ g → s ≡ t → P f s → P g t
+of_same P f g s t e h x = subst (λ f. P f t) e (subst (P f) h x)
+
 module _ {State Event Matter : Type 0} (Y : System State Event Matter) (means : List ℕ → Matter → Type 0) (seen more : List ℕ → Bool) (key : List ℕ)
     (adds : (k : List ℕ) → more k ≡ cond (pointwise nat_eq key k) true (seen k)) (u : State) (is_key : means key (Y.key u)) where
   pub look_known : (ts : List (Task Event)) (log new : List Event) → seen key ≡ true → new ≡ log → Arriving Y (Known means seen) ts log u → Going Y (Known means more) ts new

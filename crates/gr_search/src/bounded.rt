@@ -78,7 +78,7 @@ impl<'a, M: Searched> Searched for Bounded<'a, M> {
         self.machine.events(alloc)
     }
 
-    fn key(&self, alloc: Global) -> Result<Key, Limit> {
+    fn key(&mut self, alloc: Global) -> Result<Key, Limit> {
         let left = self.most - self.machine.taken();
         match self.machine.key(alloc)?.with_number(left) {
             Ok(key) => Ok(key),

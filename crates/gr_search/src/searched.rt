@@ -101,10 +101,14 @@ pub trait Searched {
         ensures offered { IfOk result (λ events. offers (fixed self.now) (state self.now) events.items) }
         ensures refuses { IfErr result RefusesLook };
 
-    /// A key of what matters of its state.
-    fn key(&self, alloc: Global) -> Result<Key, Limit>
-        requires { stands self.now }
-        ensures means { IfOk result (λ key. means (fixed self.now) key ((system (fixed self.now)).key (state self.now))) }
+    /// A key of what matters of its state. It may keep what it wrote for the next one.
+    fn key(&mut self, alloc: Global) -> Result<Key, Limit>
+        requires { stands self.old }
+        ensures stands { stands self.new }
+        ensures fixed { fixed self.new ≡ fixed self.old }
+        ensures state { state self.new ≡ state self.old }
+        ensures log { log self.new ≡ log self.old }
+        ensures means { IfOk result (λ key. means (fixed self.old) key ((system (fixed self.old)).key (state self.old))) }
         ensures refuses { IfErr result RefusesLook };
 
     ghost leads: { (m : Self) → stands m → Leads (system (fixed m)) (log m) (state m) };

@@ -128,7 +128,7 @@ impl Searched for Stairs {
         }
     }
 
-    fn key(&self, alloc: Global) -> Result<Key, Limit> {
+    fn key(&mut self, alloc: Global) -> Result<Key, Limit> {
         match vec![in alloc; self.place] {
             Ok(bytes) => Ok(Key::new(bytes)),
             Err(_) => Err(Limit::Memory),
