@@ -58,11 +58,12 @@ impl Eq for Key {
 }
 
 impl Hash for Key {
-    ghost hash_input = { fed.slice fed.u8 };
+    ghost hash_input = { fed.str };
 
     ghost respects_eq = { Prim.search (hashing, rules) };
 
     fn hash<H: Hasher>(&self, state: &mut H) {
-        self.bytes.as_slice().hash(state);
+        state.write(self.bytes.as_slice());
+        state.write_u8(255);
     }
 }
