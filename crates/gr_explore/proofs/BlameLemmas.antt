@@ -12,8 +12,8 @@ use Rattle.gr_search.specs.declared.searched.Limit.TheVariants as limits
 use Rattle.gr_schedules.specs.declared.Aim.TheVariants.{EndsWell}
 use Rattle.gr_schedules.specs.Schedules.{state_after}
 use Rattle.gr_schedules.specs.Aims.{NoneComes, SomeComes}
-use Rattle.gr_explore.specs.Exploring.{events_at, ComesTo, StandsOn, StandsAgain, IsHome}
-use Rattle.gr_explore.specs.Leading.{Seen, seen_as}
+use Rattle.gr_explore.specs.Exploring.{events_at, ComesTo, StandsAgain, IsHome}
+use Rattle.gr_explore.specs.Leading.{seen_as}
 use Rattle.gr_explore.specs.declared.blaming.Blame.{Blame}
 use Rattle.gr_explore.specs.declared.blaming.Verdict.{Verdict}
 use Rattle.gr_explore.specs.declared.blaming.Verdict.TheVariants.{Well, Lost, Unknown}

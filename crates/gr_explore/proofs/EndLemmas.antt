@@ -1,5 +1,5 @@
 -- Where an exploration leaves its machine.
-use Rattle.std.proofs.Common.{◌≡◌, ◌≤◌, ◌<◌, ◌+◌, ℕ, List, [], ◌∷◌, ◌++◌, map, take, drop, length, Option, Some, None, IfSome, refl, sym, ◌∙◌, ap, subst, arith}
+use Rattle.std.proofs.Common.{◌≡◌, ◌+◌, ℕ, List, [], ◌∷◌, ◌++◌, take, drop, length, Option, Some, None, IfSome, refl, sym, ◌∙◌, ap, subst, arith}
 use Rattle.std.proofs.lemmas.List.{map-append}
 use Rattle.gr_base.specs.declared.events.Event.{Event}
 use Rattle.gr_causal.specs.Machine.{IsLog, replay}
@@ -21,12 +21,11 @@ use Rattle.gr_search.specs.declared.shortest.Unfinished.{Unfinished}
 use Rattle.gr_search.specs.Going as search
 use Rattle.gr_search.specs.declared.search.Answer.{Answer}
 use Rattle.gr_search.specs.declared.search.Answer.TheVariants.{Nothing, Found, Limited}
-use Rattle.gr_search.specs.declared.searched.Limit.{Limit}
 use Rattle.gr_search.specs.declared.searched.Limit.TheVariants.{Memory, Steps, States, Turns, Back}
 use Rattle.gr_schedules.specs.declared.Aim.{Aim}
 use Rattle.gr_schedules.specs.declared.Aim.TheVariants as aims
 use Rattle.gr_schedules.specs.Matters.{Matter}
-use Rattle.gr_schedules.specs.Schedules.{Origin, schedules, state_after, newest_first}
+use Rattle.gr_schedules.specs.Schedules.{Origin, schedules, state_after}
 use Rattle.gr_schedules.specs.Aims.{IsAim, NoneComes, NoneComesWithin, SomeComesBy, schedules_to}
 use Rattle.gr_schedules.proofs.ScheduleLemmas.{Led, led_by, state_led}
 use Rattle.gr_schedules.proofs.AimLemmas.{none_comes, none_comes_within, some_comes, led_to, led_long}

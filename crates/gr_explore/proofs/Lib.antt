@@ -8,3 +8,7 @@ mod ChoiceLists
 mod AloneLemmas
 mod MoveLemmas
 mod BlameLemmas
+mod PageLemmas
+mod ListingLemmas
+mod BookLemmas
+mod FitLemmas

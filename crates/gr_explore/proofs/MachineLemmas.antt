@@ -1,5 +1,5 @@
 -- Machines as they are seen, after steps forward and back.
-use Rattle.std.proofs.Common.{◌≡◌, ◌≤◌, ℕ, Bool, true, false, List, [], ◌∷◌, ◌++◌, map, take, drop, length, Option, Some, None, Result, Ok, Err, option_map, refl, sym, ◌∙◌, ap, subst}
+use Rattle.std.proofs.Common.{◌≡◌, ◌≤◌, ℕ, List, [], ◌∷◌, ◌++◌, take, drop, length, Some, option_map, refl, sym, ◌∙◌, ap, subst}
 use Rattle.std.proofs.lemmas.List.{map-append}
 use Rattle.gr_base.specs.declared.events.Event.{Event}
 use Rattle.gr_causal.specs.Machine.{IsLog}
@@ -7,18 +7,20 @@ use Rattle.gr_causal.proofs.PathLemmas.{path_of}
 use Rattle.gr_program.specs.Programs.{Program}
 use Rattle.gr_rules.specs.States.{State}
 use Rattle.gr_rules.specs.Steps.{machine}
-use Rattle.gr_laws.specs.Reached.{Logged, IsRun}
+use Rattle.gr_laws.specs.Reached.{Logged}
 use Rattle.gr_step.specs.Stores.{program_at}
 use Rattle.gr_rollback.specs.declared.machine.Machine.{Machine}
 use Rattle.gr_rollback.specs.declared.stepped.Stepped.{Stepped as Told}
 use Rattle.gr_rollback.specs.Machines.{store_of, Stands, IsMachine}
-use Rattle.gr_rollback.specs.Pasts.{Past, Timeline, events_in}
+use Rattle.gr_rollback.specs.Pasts.{Timeline, events_in}
 use Rattle.gr_rollback.specs.Steps.{Takes}
-use Rattle.gr_schedules.specs.Schedules.{Origin, next_state, newest_first}
-use Rattle.gr_explore.specs.Exploring.{events_at, origin_of, events_since, state_seen, StandsSince}
-use Rattle.gr_explore.specs.Leading.{Seen, seen_as}
+use Rattle.gr_schedules.specs.Schedules.{next_state, newest_first}
+use Rattle.gr_explore.specs.Books.{Apart}
+use Rattle.gr_explore.specs.Exploring.{events_at, state_seen, StandsSince}
+use Rattle.gr_explore.specs.Leading.{seen_as}
 use Rattle.gr_explore.specs.Trying.{Remains, Advances}
-use Rattle.gr_explore.proofs.ListLemmas.{OneMore, one_more}
+use Rattle.gr_explore.proofs.BookLemmas.{apart_at_last}
+use Rattle.gr_explore.proofs.ListLemmas.{one_more}
 
 -- a machine that stands is one
 pub is_machine : (p : Program) (w : Timeline p) (m : Machine) → Stands p w m → IsMachine m
@@ -60,6 +62,8 @@ advances m n base e told since takes =
       origin = λ i. record { program = b.program_is i; before = more.before i };
       next = ap (λ s. next_state p s e) a.state_is ∙ ap (next_state p w.past.state) (sym takes.joins.event) ∙ next_by p w.past.state takes.state takes.step takes.joins.leads ∙ ap Some (sym b.state_is);
       since = more.since;
+      apart = λ front r is. subst (λ s. Apart r s (state_seen n)) (sym a.state_is)
+          (apart_at_last p _ n takes.stands front r is w.past.log takes.step refl w.past.state a.run);
     }
 
 pub remains_itself : (m : Machine) (base : ℕ) → StandsSince m base → Remains m m base

@@ -1,22 +1,21 @@
 -- Where a machine stands along a list of events.
-use Rattle.std.proofs.Common.{◌≡◌, ◌≤◌, ◌<◌, ◌+◌, ◌-◌, ℕ, zero, suc, List, [], ◌∷◌, ◌++◌, map, take, drop, length, Result, Ok, Err, OnOk, refl, sym, ◌∙◌, ap, subst, arith}
+use Rattle.std.proofs.Common.{◌≡◌, ◌≤◌, ◌-◌, ℕ, zero, suc, List, [], ◌∷◌, ◌++◌, take, drop, length, Result, Ok, Err, OnOk, refl, sym, ◌∙◌, ap, subst, arith}
 use Rattle.std.proofs.lemmas.List.{map-append, length-take-le}
 use Rattle.gr_base.specs.declared.events.Event.{Event}
 use Rattle.gr_program.specs.Programs.{Program}
-use Rattle.gr_rules.specs.States.{State}
-use Rattle.gr_laws.specs.Reached.{Logged, IsRun}
+use Rattle.gr_laws.specs.Reached.{Logged}
 use Rattle.gr_step.specs.declared.refusal.StepRefused.{StepRefused}
 use Rattle.gr_step.specs.Stores.{program_at}
 use Rattle.gr_rollback.specs.declared.machine.Machine.{Machine}
 use Rattle.gr_rollback.specs.declared.stepped.Stepped.{Stepped as Told}
 use Rattle.gr_rollback.specs.Machines.{store_of, Stands, IsMachine}
-use Rattle.gr_rollback.specs.Pasts.{Past, Timeline, events_in}
+use Rattle.gr_rollback.specs.Pasts.{Timeline, events_in}
 use Rattle.gr_rollback.specs.Steps.{Taken}
 use Rattle.gr_search.specs.declared.searched.Limit.{Limit}
 use Rattle.gr_schedules.specs.Schedules.{Origin, state_after}
 use Rattle.gr_schedules.proofs.ScheduleLemmas.{state_led}
 use Rattle.gr_explore.specs.Exploring.{events_at, origin_of, events_since, StandsSince, StandsAgain}
-use Rattle.gr_explore.specs.Leading.{Seen, seen_as, both_parts}
+use Rattle.gr_explore.specs.Leading.{seen_as, both_parts}
 use Rattle.gr_explore.specs.Blaming.{IsOf, StandsAlong, GoesOn}
 use Rattle.gr_explore.proofs.ListLemmas.{same_newest}
 use Rattle.gr_explore.proofs.MachineLemmas.{is_machine, joined}

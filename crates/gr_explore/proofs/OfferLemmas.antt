@@ -1,28 +1,29 @@
 -- All possible events are among those that are offered.
-use Rattle.std.proofs.Common.{◌≡◌, ℕ, Bool, true, false, List, [], ◌∷◌, ◌++◌, Option, Some, None, option_map, refl, sym, ◌∙◌, ap, subst, inl, inr}
+use Rattle.std.proofs.Common.{◌≡◌, ℕ, true, List, [], ◌∷◌, Option, Some, None, option_map, refl, sym, ◌∙◌, ap, subst, inl, inr}
 use Rattle.std.specs.List.Sorted.{IsPermutation}
 use Rattle.gr_base.specs.declared.events.Event.{Event}
 use Rattle.gr_causal.specs.Sequences.{In}
-use Rattle.gr_program.specs.Programs.{Program}
 use Rattle.gr_base.specs.declared.names.ChName.{ChName}
 use Rattle.gr_rules.specs.Operators.{same_channel}
-use Rattle.gr_rules.specs.States.{State, same_go}
+use Rattle.gr_rules.specs.States.{same_go}
 use Rattle.gr_laws.proofs.CellLemmas.{go_is, go_self, channel_is, channel_self}
+use Rattle.gr_channels.specs.Channels.{Content}
+use Rattle.gr_code.specs.Goroutines.{CodeGoroutine}
 use Rattle.gr_refine.specs.Contents.{Contents}
-use Rattle.gr_step.specs.Running.{IsChecked, Running}
 use Rattle.gr_step.specs.Stores.{program_at, contents_at, IsRun}
 use Rattle.gr_rollback.specs.declared.machine.Machine.{Machine}
-use Rattle.gr_rollback.specs.Machines.{store_of, steps_of, Stands, IsMachine}
+use Rattle.gr_rollback.specs.Machines.{store_of, steps_of, IsMachine}
 use Rattle.gr_search.specs.Going as search
-use Rattle.gr_schedules.specs.Schedules.{schedules, next_state}
+use Rattle.gr_schedules.specs.Schedules.{schedules}
 use Rattle.gr_schedules.specs.Choices.{all_choices, can_act}
 use Rattle.gr_schedules.specs.Names.{AreAll, goroutines_begun, channels_made}
 use Rattle.gr_schedules.proofs.ChoiceLemmas.{possible_events, in_all_choices, acts_there}
 use Rattle.gr_schedules.proofs.NameLemmas.{all_named}
-use Rattle.gr_schedules.specs.Matters.{matter}
-use Rattle.gr_schedules.specs.Keys.{IsKey, entries, listing_code}
-use Rattle.gr_schedules.proofs.KeyLemmas.{is_key_of}
+use Rattle.gr_explore.specs.declared.book.Book.{Book}
+use Rattle.gr_explore.specs.Books.{Describes, goroutine_view, channel_view, channel_seen}
 use Rattle.gr_explore.specs.Exploring.{origin_of, state_seen}
+use Rattle.gr_explore.specs.Keeping.{names_of, has_name, goroutine_page, channel_page}
+use Rattle.gr_explore.proofs.PageLemmas.{is_there, fit_unwritten}
 use Rattle.gr_explore.proofs.NameLemmas.{in_other_order}
 
 -- the store of a machine is that of a run
@@ -54,22 +55,49 @@ there m g a names all =
     let x = was_some _ ((contents_at (store_of m)).goroutines g) seen.0 seen.1 in
     all.each_goroutine g x.0 x.1
 
-pub all_offered : (m : Machine) (base : ℕ) → IsMachine m → (names : List (List ℕ)) → IsPermutation ([] ∷ goroutines_begun (steps_of m)) names → (events : List Event)
+-- by names of all that can act
+pub all_offered_by : (m : Machine) (base : ℕ) → IsMachine m → (names : List (List ℕ)) → ((g : List ℕ) → can_act (state_seen m) g ≡ true → In g names) → (events : List Event)
     → events ≡ all_choices (program_at (store_of m)) (state_seen m) names → search.HasAll (schedules (origin_of m base)) (state_seen m) events
-all_offered m base is names all events e event t next =
+all_offered_by m base is names all events e event t next =
     let p = program_at (store_of m) in
     let running = (runs m is).running in
     let event_goes = possible_events p (state_seen m) t event running.program running.reached next in
     subst (search.In event) (sym e) (to_search event (all_choices p (state_seen m) names)
-    (in_all_choices p (state_seen m) names event (in_other_order same_go go_is go_self ([] ∷ goroutines_begun (steps_of m)) names all event.go (there m event.go event_goes.0 ([] ∷ goroutines_begun (steps_of m)) (named m is))) event_goes.0 event_goes.1))
+    (in_all_choices p (state_seen m) names event (all event.go event_goes.0) event_goes.0 event_goes.1))
 
--- the bytes of a listing by the names of the log are a key
-pub is_key : (m : Machine) → IsMachine m → (gos : List (List ℕ)) (chs : List ChName) → IsPermutation ([] ∷ goroutines_begun (steps_of m)) gos
-    → IsPermutation (channels_made (steps_of m)) chs → (key : List ℕ)
-    → key ≡ listing_code (record { run = (contents_at (store_of m)).run; goroutines = entries (contents_at (store_of m)).goroutines gos; channels = entries (contents_at (store_of m)).channels chs })
-    → IsKey (program_at (store_of m)) key (matter (state_seen m))
-is_key m is gos chs all_gos all_chs key e =
-    let all = named m is in
-    is_key_of (program_at (store_of m)) key (contents_at (store_of m)) gos chs
-    (λ n g h. in_other_order same_go go_is go_self ([] ∷ goroutines_begun (steps_of m)) gos all_gos n (all.each_goroutine n g h))
-    (λ c x h. in_other_order same_channel channel_is channel_self (channels_made (steps_of m)) chs all_chs c (all.each_channel c x h)) e
+-- by the names of the log, in another order
+pub all_offered : (m : Machine) (base : ℕ) → IsMachine m → (names : List (List ℕ)) → IsPermutation ([] ∷ goroutines_begun (steps_of m)) names → (events : List Event)
+    → events ≡ all_choices (program_at (store_of m)) (state_seen m) names → search.HasAll (schedules (origin_of m base)) (state_seen m) events
+all_offered m base is names all =
+    all_offered_by m base is names (λ g a. in_other_order same_go go_is go_self ([] ∷ goroutines_begun (steps_of m)) names all g
+    (there m g a ([] ∷ goroutines_begun (steps_of m)) (named m is)))
+
+-- the pages of a book have the name of each goroutine that can act
+pub named_by_pages : (m : Machine) (b : Book) → Describes (program_at (store_of m)) (state_seen m) b → b.goroutines.changed.items ≡ [] → (g : List ℕ) → can_act (state_seen m) g ≡ true
+    → In g (names_of b.goroutines.written.items)
+named_by_pages m b d none g a =
+    let seen = acts_there (state_seen m) g a in
+    is_there same_go go_is go_self g (names_of b.goroutines.written.items) (λ h. none_some seen.0 (d.goroutines.others g (ap (has_name same_go g) none) h ∙ seen.1))
+
+-- a book whose pages are not written yet
+pub begun : (m : Machine) → IsMachine m → (b : Book) (gos : List (List ℕ)) (chs : List ChName) → IsPermutation ([] ∷ goroutines_begun (steps_of m)) gos → IsPermutation (channels_made (steps_of m)) chs
+    → b.goroutines.written.items ≡ [] → b.goroutines.changed.items ≡ gos → b.channels.written.items ≡ [] → b.channels.changed.items ≡ chs → Describes (program_at (store_of m)) (state_seen m) b
+begun m is b gos chs all_gos all_chs no_go go_names no_channel channel_names = record {
+  goroutines = fit_unwritten same_go go_is go_self goroutine_page (goroutine_view (program_at (store_of m))) b.goroutines (state_seen m).goroutines gos no_go go_names
+      (λ n out. no_goroutine n out (s.goroutines n) refl);
+  channels = fit_unwritten same_channel channel_is channel_self channel_page channel_view b.channels (channel_seen (state_seen m)) chs no_channel channel_names
+      (λ c out. no_channel_there c out (s.channels c) refl);
+}
+  where
+    s : Contents
+    s = contents_at (store_of m)
+
+    no_goroutine : (n : List ℕ) → (In n gos → ⊥) → (o : Option CodeGoroutine) → s.goroutines n ≡ o → None ≡ (state_seen m).goroutines n
+    no_goroutine n out None e = ap (goroutine_view (program_at (store_of m))) (sym e)
+    no_goroutine n out (Some g) e =
+        absurd (out (in_other_order same_go go_is go_self ([] ∷ goroutines_begun (steps_of m)) gos all_gos n ((named m is).each_goroutine n g e)))
+
+    no_channel_there : (c : ChName) → (In c chs → ⊥) → (o : Option Content) → s.channels c ≡ o → channel_view None ≡ channel_seen (state_seen m) c
+    no_channel_there c out None e = ap channel_view (sym e)
+    no_channel_there c out (Some x) e =
+        absurd (out (in_other_order same_channel channel_is channel_self (channels_made (steps_of m)) chs all_chs c ((named m is).each_channel c x e)))

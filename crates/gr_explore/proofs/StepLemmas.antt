@@ -4,14 +4,12 @@ use Rattle.gr_base.specs.declared.events.Event.{Event}
 use Rattle.gr_base.specs.declared.names.StepId.{StepId}
 use Rattle.gr_program.specs.Programs.{Program}
 use Rattle.gr_rules.specs.Attempts.{Refusal}
-use Rattle.gr_rules.specs.Attempts as rules
 use Rattle.gr_base.specs.declared.kinds.Fault.{Fault}
 use Rattle.gr_rules.specs.States.{State, live, ended, faulted}
 use Rattle.gr_rules.specs.Turns.{IsReady, HasTurn, IsTurn, last_owner}
 use Rattle.gr_step.specs.Record.{Record}
 use Rattle.gr_step.specs.Records.{event_of}
 use Rattle.gr_rules.specs.Steps.{machine, refusal}
-use Rattle.gr_laws.specs.Reached.{Logged}
 use Rattle.gr_laws.proofs.RefusalLemmas.{refused_is_no_step}
 use Rattle.gr_step.specs.declared.refusal.StepRefused.{StepRefused}
 use Rattle.gr_step.specs.declared.refusal.StepRefused.TheVariants as refusals
@@ -23,18 +21,20 @@ use Rattle.gr_rollback.specs.declared.stepped.Stepped.{Stepped as Told}
 use Rattle.gr_rollback.specs.Backs.{Undone, Undoes}
 use Rattle.gr_rollback.specs.Machines.{store_of, Stands, IsMachine}
 use Rattle.gr_rollback.specs.Pasts.{Timeline, events_in}
-use Rattle.gr_rollback.specs.Steps.{Taken, Takes, IsNoStep}
-use Rattle.gr_schedules.specs.Schedules.{Origin, next_state, newest_first, schedules}
+use Rattle.gr_rollback.specs.Steps.{Taken, IsNoStep}
+use Rattle.gr_schedules.specs.Schedules.{next_state, schedules}
 use Rattle.gr_search.specs.Going.{Stepped, RefusesStep, RefusesBack}
 use Rattle.gr_search.specs.declared.searched.Limit.{Limit}
-use Rattle.gr_search.specs.declared.searched.Limit.TheVariants.{Memory, Steps, Back}
+use Rattle.gr_search.specs.declared.searched.Limit.TheVariants.{Steps, Back}
 use Rattle.std.specs.Prelude.{IfOk, IfErr, OnOk, OnErr, IsTrue, ◌↔◌}
 use Rattle.gr_rules.specs.Limits.{most_steps}
 use Rattle.gr_rollback.specs.Machines as machines
 use Rattle.gr_schedules.specs.Schedules.{IsBad}
 use Rattle.gr_explore.specs.Exploring.{events_at, origin_of, events_since, longest_after, state_seen, StandsSince}
-use Rattle.gr_explore.specs.Leading.{Seen, seen_as}
-use Rattle.gr_explore.proofs.ListLemmas.{OneMore, one_more, count_since}
+use Rattle.gr_explore.specs.Leading.{seen_as}
+use Rattle.gr_explore.specs.Books.{Apart}
+use Rattle.gr_explore.proofs.BookLemmas.{apart_at_last, apart_itself, apart_turned}
+use Rattle.gr_explore.proofs.ListLemmas.{one_more, count_since}
 use Rattle.gr_explore.specs.Trying.{Remains, Advances, Retreats, Tried, Returned, IsNotTaken}
 use Rattle.gr_explore.proofs.MachineLemmas.{remains, advances, is_machine, joined, remains_itself}
 
@@ -88,6 +88,8 @@ module _ (m n : Machine) (base : ℕ) (since : StandsSince m base) (more : base 
         stands = record { is = is_machine p _ n u.stands; within = fewer };
         origin = λ i. record { program = b.program_is i; before = sym one.before i };
         since = sym (ap (drop 1) one.since);
+        apart = λ front r is. apart_turned r _ _ (subst (λ s. Apart r s (state_seen m)) (sym b.state_is)
+            (apart_at_last p since.is.world m since.is.stands front r is u.past.log u.step u.loses.log u.past.state u.loses.run));
       }
     where
       length_more : (xs : List Event) (x : Event) → length (xs ++ x ∷ []) ≡ length xs + 1
@@ -200,7 +202,7 @@ module _ (m n : Machine) (base : ℕ) where
 pub returned_none : (m : Machine) (base : ℕ) (since : StandsSince m base) → length (events_at m) ≤ base → Returned base (Ok tt) m m
 returned_none m base since h =
     let w = since.within in
-    record { stands = since; origin = refl; since = at_base m base since (omega (arith, h, w)) }
+    record { stands = since; origin = refl; since = at_base m base since (omega (arith, h, w)); apart = λ front r is. apart_itself r (state_seen m) }
 
 pub returned_err : (m n : Machine) (base : ℕ) (since : StandsSince m base) (r : Result StepId BackRefused) (why : BackRefused) → r ≡ Err why
     → Undone (program_at (store_of m)) since.is.world r n → (q : Result (Unit {0}) Limit) → q ≡ Err Back → Returned base q m n

@@ -1,5 +1,5 @@
 -- A machine that explores the schedules of its program, from where it stood with so many steps.
-use Rattle.std.specs.Prelude.{◌≡◌, ◌≤◌, ◌-◌, ℕ, List, [], ◌++◌, map, take, drop, length}
+use Rattle.std.specs.Prelude.{◌≤◌, ◌-◌, ℕ, List, [], ◌++◌, map, take, drop, length}
 use Rattle.gr_base.specs.declared.events.Event.{Event}
 use Rattle.gr_causal.specs.Machine.{IsLog}
 use Rattle.gr_program.specs.Programs.{Program}

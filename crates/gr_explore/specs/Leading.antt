@@ -1,14 +1,12 @@
 -- What is seen of a machine that stands, and that its events lead to its state.
-use Rattle.std.proofs.Common.{◌≡◌, ◌≤◌, ℕ, zero, suc, List, [], ◌∷◌, ◌++◌, map, take, drop, length, refl, sym, ◌∙◌, ap, subst}
-use Rattle.gr_base.specs.declared.events.Event.{Event}
+use Rattle.std.proofs.Common.{◌≡◌, ℕ, zero, suc, List, [], ◌∷◌, ◌++◌, map, take, drop, refl, sym, ◌∙◌, ap, subst}
 use Rattle.gr_program.specs.Programs.{Program}
-use Rattle.gr_rules.specs.States.{State}
 use Rattle.gr_laws.specs.Reached.{Logged, IsRun}
 use Rattle.gr_step.specs.Listings.{state_in}
-use Rattle.gr_step.specs.Stores.{program_at, contents_at, state_at}
+use Rattle.gr_step.specs.Stores.{program_at, contents_at}
 use Rattle.gr_record.proofs.KeptLemmas.{kept_is_run}
 use Rattle.gr_rollback.specs.declared.machine.Machine.{Machine}
-use Rattle.gr_rollback.specs.Machines.{store_of, steps_of, Stands, IsMachine}
+use Rattle.gr_rollback.specs.Machines.{store_of, steps_of, Stands}
 use Rattle.gr_rollback.specs.Pasts.{Timeline, events_in}
 use Rattle.gr_rollback.proofs.KeptLemmas.{events_alike}
 use Rattle.gr_search.specs.System.{Leads}

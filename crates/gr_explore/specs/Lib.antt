@@ -4,3 +4,5 @@ pub mod Leading
 pub mod Trying
 pub mod Fewest
 pub mod Blaming
+pub mod Keeping
+pub mod Books

@@ -1,12 +1,12 @@
-//! A key of a state: the bytes of its goroutines and channels, in the order of names.
+//! A key of a state: the bytes of its goroutines and channels.
 
-ghost use Rattle.std.specs.Prelude.{◌≡◌, ◌++◌, IfOk, OnOk};
+ghost use Rattle.std.specs.Prelude.{◌≡◌, ◌++◌, ◌∷◌, [], IfOk};
 ghost use Rattle.gr_step.specs.Objects.{run_of};
 ghost use Rattle.gr_step.specs.Stores.{contents_at};
-ghost use Rattle.gr_keys.specs.Codes.{list_code};
-ghost use Rattle.gr_schedules.specs.Keys.{channel_entry_code, entries, fault_number as number_of_fault, goroutine_entry_code};
-ghost use Rattle.gr_schedules.specs.Keys.{listing_code, run_number};
+ghost use Rattle.gr_schedules.specs.Keys.{fault_number as number_of_fault, run_number};
+ghost use Rattle.gr_explore.specs.Keeping.{pages_code};
 
+use crate::pages::{Paged, Pages};
 use gr_base::{ChName, Fault, GoName, NoMemory};
 use gr_keys::channels::write_channel;
 use gr_keys::goroutines::write_goroutine;
@@ -42,76 +42,62 @@ fn run_code(run: Run) -> u8
     }
 }
 
-/// Appends a goroutine with its name.
-fn write_named_goroutine(store: &Store, go: &GoName, bytes: &mut Vec<u8>) -> Result<(), NoMemory>
-    ensures { OnOk result (bytes.new.items
-        ≡ bytes.old.items ++ goroutine_entry_code (go.now, (contents_at store.now).goroutines go.now)) }
-{
-    go.write(bytes)?;
-    match store.goroutine(go) {
-        None => write_byte(0, bytes),
-        Some(goroutine) => {
-            write_byte(1, bytes)?;
-            write_goroutine(goroutine, bytes)
-        }
-    }
-}
+impl Paged for GoName {
+    ghost use Rattle.gr_explore.specs.Keeping.{goroutine_page};
 
-/// Appends a channel with its name.
-fn write_named_channel(store: &Store, name: &ChName, bytes: &mut Vec<u8>) -> Result<(), NoMemory>
-    ensures { OnOk result (bytes.new.items
-        ≡ bytes.old.items ++ channel_entry_code (name.now, (contents_at store.now).channels name.now)) }
-{
-    name.write(bytes)?;
-    match store.channel(name) {
-        None => write_byte(0, bytes),
-        Some(channel) => {
-            write_byte(1, bytes)?;
-            write_channel(channel, bytes)
-        }
-    }
-}
+    ghost code = { λ s n. goroutine_page n (s.goroutines n) };
 
-/// Appends these goroutines.
-fn write_goroutines(store: &Store, names: &[GoName], bytes: &mut Vec<u8>) -> Result<(), NoMemory>
-    ensures { OnOk result (bytes.new.items
-        ≡ bytes.old.items ++ list_code goroutine_entry_code (entries (contents_at store.now).goroutines names.now)) }
-{
-    for name in names {
+    fn copy_name(&self, alloc: Global) -> Result<GoName, NoMemory> {
+        self.copy(alloc)
+    }
+
+    fn write_code(&self, store: &Store, bytes: &mut Vec<u8>) -> Result<(), NoMemory> {
+        let Some(goroutine) = store.goroutine(self) else {
+            return Ok(());
+        };
         write_byte(1, bytes)?;
-        write_named_goroutine(store, name, bytes)?;
-    }
-    write_byte(0, bytes)
-}
-
-/// Appends these channels.
-fn write_channels(store: &Store, names: &[ChName], bytes: &mut Vec<u8>) -> Result<(), NoMemory>
-    ensures { OnOk result (bytes.new.items
-        ≡ bytes.old.items ++ list_code channel_entry_code (entries (contents_at store.now).channels names.now)) }
-{
-    for name in names {
+        self.write(bytes)?;
         write_byte(1, bytes)?;
-        write_named_channel(store, name, bytes)?;
+        write_goroutine(goroutine, bytes)
     }
-    write_byte(0, bytes)
 }
 
-/// The bytes of the state of a store, whose goroutines and channels are listed by these names.
+impl Paged for ChName {
+    ghost use Rattle.gr_explore.specs.Keeping.{channel_page};
+
+    ghost code = { λ s c. channel_page c (s.channels c) };
+
+    fn copy_name(&self, alloc: Global) -> Result<ChName, NoMemory> {
+        self.copy(alloc)
+    }
+
+    fn write_code(&self, store: &Store, bytes: &mut Vec<u8>) -> Result<(), NoMemory> {
+        let Some(channel) = store.channel(self) else {
+            return Ok(());
+        };
+        write_byte(1, bytes)?;
+        self.write(bytes)?;
+        write_byte(1, bytes)?;
+        write_channel(channel, bytes)
+    }
+}
+
+/// The bytes of the state of a store: whether the program runs, the pages of its goroutines, and those of its channels.
 pub(crate) fn bytes_of(
     alloc: Global,
     store: &Store,
-    goroutines: &[GoName],
-    channels: &[ChName],
+    goroutines: &Pages<GoName>,
+    channels: &Pages<ChName>,
+    size: usize,
 ) -> Result<Vec<u8>, NoMemory>
-    ensures { IfOk result (λ bytes. bytes.items ≡ listing_code (record {
-      run = (contents_at store.now).run;
-      goroutines = entries (contents_at store.now).goroutines goroutines.now;
-      channels = entries (contents_at store.now).channels channels.now;
-    })) }
+    ensures { IfOk result (λ bytes. bytes.items ≡ run_number (contents_at store.now).run
+        ∷ ((pages_code goroutines.now.written.items ++ 0 ∷ []) ++ (pages_code channels.now.written.items ++ 0 ∷ []))) }
 {
-    let mut bytes = Vec::new(alloc);
+    let mut bytes = Vec::with_capacity(alloc, size)?;
     write_byte(run_code(store.run()), &mut bytes)?;
-    write_goroutines(store, goroutines, &mut bytes)?;
-    write_channels(store, channels, &mut bytes)?;
+    goroutines.append(&mut bytes)?;
+    write_byte(0, &mut bytes)?;
+    channels.append(&mut bytes)?;
+    write_byte(0, &mut bytes)?;
     Ok(bytes)
 }

@@ -4,12 +4,15 @@
 
 mod alone;
 pub mod blaming;
+mod book;
+mod changed;
 mod explorer;
 mod keys;
 mod looking;
 mod moving;
 mod names;
 mod offers;
+mod pages;
 pub mod searching;
 mod stepping;
 

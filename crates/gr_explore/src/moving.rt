@@ -7,6 +7,7 @@ ghost use Rattle.gr_rollback.specs.Machines.{IsMachine, store_of};
 ghost use Rattle.gr_explore.specs.Exploring.{StandsSince, events_at};
 ghost use Rattle.gr_explore.specs.Blaming.{IsOf, StandsAlong};
 
+use crate::book::Book;
 use crate::explorer::Explorer;
 use gr_base::{Event, NoMemory};
 use gr_rollback::Machine;
@@ -40,11 +41,13 @@ pub(crate) fn back_to(alloc: Global, machine: &mut Machine, place: usize) -> Res
     ensures of { IsOf (program_at (store_of machine.old)) machine.new }
     ensures back { OnOk result (events_at machine.new ≡ take place (events_at machine.old)) }
 {
+    let mut book = Book::new(alloc);
     let mut explorer = Explorer {
         machine,
         base: place,
         aim: Aim::EndsWell,
         alloc,
+        book: &mut book,
     };
     take_all_back(&mut explorer)
 }

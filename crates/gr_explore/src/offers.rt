@@ -5,7 +5,9 @@ ghost use Rattle.gr_base.specs.declared.events.Choice.TheVariants.{Pick};
 ghost use Rattle.gr_step.specs.Stores.{IsRun, program_at, state_at};
 ghost use Rattle.gr_schedules.specs.Choices.{all_choices, can_act as acts_by_rules, choices_at, choices_of};
 ghost use Rattle.gr_schedules.specs.Choices.{event_by, is_pick};
+ghost use Rattle.gr_explore.specs.Keeping.{names_of};
 
+use crate::pages::Page;
 use gr_base::{Choice, Event, GoName, NoMemory};
 use gr_step::{Run, Status, Store};
 use std::alloc::Global;
@@ -116,6 +118,23 @@ pub(crate) fn push_all_offers(
 {
     for go in names {
         push_offers(alloc, store, events, go)?;
+    }
+    Ok(())
+}
+
+/// Adds the choices of the goroutines that have these pages.
+pub(crate) fn push_page_offers(
+    alloc: Global,
+    store: &Store,
+    events: &mut Vec<Event>,
+    pages: &[Page<GoName>],
+) -> Result<(), NoMemory>
+    requires { IsRun store.now }
+    ensures { OnOk result (events.new.items
+        ≡ events.old.items ++ all_choices (program_at store.now) (state_at store.now) (names_of pages.now)) }
+{
+    for page in pages {
+        push_offers(alloc, store, events, &page.name)?;
     }
     Ok(())
 }

@@ -15,6 +15,7 @@ ghost use Rattle.gr_explore.specs.Fewest.{ComesByFewest, IsHomeAfter, IsKnownOf}
 ghost use Rattle.gr_search.specs.declared.searched.Limit.{Limit as LimitMet};
 ghost use Rattle.gr_search.specs.declared.shortest.Unfinished.{Unfinished as WhatIsKnown};
 
+use crate::book::Book;
 use crate::explorer::Explorer;
 use gr_rollback::Machine;
 use gr_schedules::Aim;
@@ -43,11 +44,13 @@ pub fn explore_for(alloc: Global, machine: &mut Machine, aim: Aim, limits: &Limi
         limits.now.states limits.now.turns limit }
 {
     let base = machine.log().len();
+    let mut book = Book::new(alloc);
     let mut explorer = Explorer {
         machine,
         base,
         aim,
         alloc,
+        book: &mut book,
     };
     search(alloc, &mut explorer, limits)
 }
@@ -94,11 +97,13 @@ pub fn explore_shortest(alloc: Global, machine: &mut Machine, aim: Aim, limits: 
         limits.now.states limits.now.turns (u.safe + 1) u.limit }
 {
     let base = machine.log().len();
+    let mut book = Book::new(alloc);
     let mut explorer = Explorer {
         machine,
         base,
         aim,
         alloc,
+        book: &mut book,
     };
     search_shortest(alloc, &mut explorer, limits)
 }

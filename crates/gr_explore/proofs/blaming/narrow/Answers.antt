@@ -1,4 +1,4 @@
-use Rattle.std.proofs.Common.{◌∙◌, ◌≤◌, ◌<◌, ◌+◌, ◌-◌, length, arith}
+use Rattle.std.proofs.Common.{◌∙◌, arith}
 use Rattle.gr_step.specs.Stores.{program_at}
 use Rattle.gr_rollback.specs.Machines.{store_of}
 use Rattle.gr_explore.proofs.MoveLemmas.{along_by}

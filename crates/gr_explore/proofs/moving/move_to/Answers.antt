@@ -1,4 +1,4 @@
-use Rattle.std.proofs.Common.{◌∙◌, ◌≤◌, ap, sym, length, arith}
+use Rattle.std.proofs.Common.{◌∙◌, ap, sym, length, arith}
 use Rattle.gr_depend.specs.Logs.{records_of}
 use Rattle.gr_explore.proofs.MoveLemmas.{went_forth}
 use Rattle.gr_explore.proofs.StepLemmas.{as_many}

@@ -1,4 +1,4 @@
-use Rattle.std.proofs.Common.{◌≡◌, ◌∷◌, [], ◌++◌, ap, ◌∙◌}
+use Rattle.std.proofs.Common.{◌∷◌, [], ◌++◌, ap, ◌∙◌}
 use Rattle.gr_step.specs.Stores.{program_at}
 use Rattle.gr_rollback.specs.Machines.{store_of}
 use Rattle.gr_explore.specs.Exploring.{events_at}

@@ -13,19 +13,19 @@ use Rattle.gr_explore.proofs.searching.explore_for.Goals as goal
 
 pub returns-clause-nothing : goal.returns-clause-nothing
 returns-clause-nothing c p w s e =
-    nothing_found c.args.machine.now c.search.new.machine.machine.now c.len-base.result c.search.new.machine.base (c.len-base.ensures ∙ ap (λ l. length (records_of l)) c.log.ensures) c.requires c.search.ensures.stands
+    nothing_found c.args.machine.now c.search.new.machine.machine.now c.len-base.result c.search.new.machine.base (c.len-base.ensures ∙ ap (λ l. length (records_of l)) c.log.ensures) c.requires c.search.ensures.stands.0
     (ap (λ f. f.1) c.search.ensures.fixed) (ap (λ f. f.2) c.search.ensures.fixed) c.args.aim (c.search.ensures.nothing e) p w s
 
 pub returns-clause-found : goal.returns-clause-found
 returns-clause-found c p w s e =
     let there : c.search.new.machine.machine.now ≡ c.machine-1.given.0 = search rules in
-    subst (ComesTo c.args.aim p w) there (found c.args.machine.now c.search.new.machine.machine.now c.len-base.result c.search.new.machine.base (c.len-base.ensures ∙ ap (λ l. length (records_of l)) c.log.ensures) c.requires c.search.ensures.stands
+    subst (ComesTo c.args.aim p w) there (found c.args.machine.now c.search.new.machine.machine.now c.len-base.result c.search.new.machine.base (c.len-base.ensures ∙ ap (λ l. length (records_of l)) c.log.ensures) c.requires c.search.ensures.stands.0
     (ap (λ f. f.1) c.search.ensures.fixed) (ap (λ f. f.2) c.search.ensures.fixed) c.args.aim (c.search.ensures.leads e) (c.search.ensures.found e) p w s)
 
 pub returns-clause-home : goal.returns-clause-home
 returns-clause-home c =
     let there : c.search.new.machine.machine.now ≡ c.machine-1.given.0 = search rules in
-    subst (λ n. (p : Program) (w : Timeline p) → Stands p w c.args.machine.now → IsHome p w c.search.result n) there (all_home c.args.machine.now c.search.new.machine.machine.now c.len-base.result c.search.new.machine.base (c.len-base.ensures ∙ ap (λ l. length (records_of l)) c.log.ensures) c.requires c.search.ensures.stands
+    subst (λ n. (p : Program) (w : Timeline p) → Stands p w c.args.machine.now → IsHome p w c.search.result n) there (all_home c.args.machine.now c.search.new.machine.machine.now c.len-base.result c.search.new.machine.base (c.len-base.ensures ∙ ap (λ l. length (records_of l)) c.log.ensures) c.requires c.search.ensures.stands.0
     (ap (λ f. f.1) c.search.ensures.fixed) (ap (λ f. f.2) c.search.ensures.fixed) c.search.result c.search.ensures.home)
 
 pub returns-clause-limited : goal.returns-clause-limited

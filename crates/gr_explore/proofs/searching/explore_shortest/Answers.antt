@@ -14,7 +14,7 @@ use Rattle.gr_explore.proofs.searching.explore_shortest.Goals as goal
 
 pub returns-clause-nothing : goal.returns-clause-nothing
 returns-clause-nothing c p w s e =
-    shortest_nothing c.args.machine.now c.search_shortest.new.machine.machine.now c.len-base.result c.search_shortest.new.machine.base (c.len-base.ensures ∙ ap (λ l. length (records_of l)) c.log.ensures) c.requires c.search_shortest.ensures.stands
+    shortest_nothing c.args.machine.now c.search_shortest.new.machine.machine.now c.len-base.result c.search_shortest.new.machine.base (c.len-base.ensures ∙ ap (λ l. length (records_of l)) c.log.ensures) c.requires c.search_shortest.ensures.stands.0
     (ap (λ f. f.1) c.search_shortest.ensures.fixed) (ap (λ f. f.2) c.search_shortest.ensures.fixed) c.args.aim
     (IsKey (origin_of c.args.machine.now c.len-base.result).program) (AreChoices (origin_of c.args.machine.now c.len-base.result).program) (longest_after (origin_of c.args.machine.now c.len-base.result))
     c.args.limits.now.states c.args.limits.now.turns c.search_shortest.result c.search_shortest.ensures.ends e p w s
@@ -23,7 +23,7 @@ pub returns-clause-found : goal.returns-clause-found
 returns-clause-found c p w s e =
     let there : c.search_shortest.new.machine.machine.now ≡ c.machine-1.given.0 = search rules in
     subst (ComesByFewest c.args.aim p w) there
-    (shortest_found c.args.machine.now c.search_shortest.new.machine.machine.now c.len-base.result c.search_shortest.new.machine.base (c.len-base.ensures ∙ ap (λ l. length (records_of l)) c.log.ensures) c.requires c.search_shortest.ensures.stands
+    (shortest_found c.args.machine.now c.search_shortest.new.machine.machine.now c.len-base.result c.search_shortest.new.machine.base (c.len-base.ensures ∙ ap (λ l. length (records_of l)) c.log.ensures) c.requires c.search_shortest.ensures.stands.0
     (ap (λ f. f.1) c.search_shortest.ensures.fixed) (ap (λ f. f.2) c.search_shortest.ensures.fixed) c.args.aim
     (IsKey (origin_of c.args.machine.now c.len-base.result).program) (AreChoices (origin_of c.args.machine.now c.len-base.result).program) (longest_after (origin_of c.args.machine.now c.len-base.result))
     c.args.limits.now.states c.args.limits.now.turns c.search_shortest.result c.search_shortest.ensures.ends c.search_shortest.ensures.leads e p w s)
@@ -32,14 +32,14 @@ pub returns-clause-home : goal.returns-clause-home
 returns-clause-home c =
     let there : c.search_shortest.new.machine.machine.now ≡ c.machine-1.given.0 = search rules in
     subst (λ n. (p : Program) (w : Timeline p) → Stands p w c.args.machine.now → IsHomeAfter p w c.search_shortest.result n) there
-    (shortest_home c.args.machine.now c.search_shortest.new.machine.machine.now c.len-base.result c.search_shortest.new.machine.base (c.len-base.ensures ∙ ap (λ l. length (records_of l)) c.log.ensures) c.requires c.search_shortest.ensures.stands
+    (shortest_home c.args.machine.now c.search_shortest.new.machine.machine.now c.len-base.result c.search_shortest.new.machine.base (c.len-base.ensures ∙ ap (λ l. length (records_of l)) c.log.ensures) c.requires c.search_shortest.ensures.stands.0
     (ap (λ f. f.1) c.search_shortest.ensures.fixed) (ap (λ f. f.2) c.search_shortest.ensures.fixed) c.args.aim
     (IsKey (origin_of c.args.machine.now c.len-base.result).program) (AreChoices (origin_of c.args.machine.now c.len-base.result).program) (longest_after (origin_of c.args.machine.now c.len-base.result))
     c.args.limits.now.states c.args.limits.now.turns c.search_shortest.result c.search_shortest.ensures.ends)
 
 pub returns-clause-known : goal.returns-clause-known
 returns-clause-known c p w u s e =
-    shortest_known c.args.machine.now c.search_shortest.new.machine.machine.now c.len-base.result c.search_shortest.new.machine.base (c.len-base.ensures ∙ ap (λ l. length (records_of l)) c.log.ensures) c.requires c.search_shortest.ensures.stands
+    shortest_known c.args.machine.now c.search_shortest.new.machine.machine.now c.len-base.result c.search_shortest.new.machine.base (c.len-base.ensures ∙ ap (λ l. length (records_of l)) c.log.ensures) c.requires c.search_shortest.ensures.stands.0
     (ap (λ f. f.1) c.search_shortest.ensures.fixed) (ap (λ f. f.2) c.search_shortest.ensures.fixed) c.args.aim
     (IsKey (origin_of c.args.machine.now c.len-base.result).program) (AreChoices (origin_of c.args.machine.now c.len-base.result).program) (longest_after (origin_of c.args.machine.now c.len-base.result))
     c.args.limits.now.states c.args.limits.now.turns c.search_shortest.result c.search_shortest.ensures.ends u e p w s
@@ -49,7 +49,7 @@ returns-clause-limited c u e =
     subst (λ k.
     IsCut (schedules_to c.args.aim (origin_of c.args.machine.now k)) (IsKey (origin_of c.args.machine.now k).program) (AreChoices (origin_of c.args.machine.now k).program)
     (longest_after (origin_of c.args.machine.now k)) c.args.limits.now.states c.args.limits.now.turns (u.safe + 1) u.limit) (c.len-base.ensures ∙ ap (λ l. length (records_of l)) c.log.ensures)
-    (shortest_cut c.args.machine.now c.search_shortest.new.machine.machine.now c.len-base.result c.search_shortest.new.machine.base (c.len-base.ensures ∙ ap (λ l. length (records_of l)) c.log.ensures) c.requires c.search_shortest.ensures.stands
+    (shortest_cut c.args.machine.now c.search_shortest.new.machine.machine.now c.len-base.result c.search_shortest.new.machine.base (c.len-base.ensures ∙ ap (λ l. length (records_of l)) c.log.ensures) c.requires c.search_shortest.ensures.stands.0
     (ap (λ f. f.1) c.search_shortest.ensures.fixed) (ap (λ f. f.2) c.search_shortest.ensures.fixed) c.args.aim
     (IsKey (origin_of c.args.machine.now c.len-base.result).program) (AreChoices (origin_of c.args.machine.now c.len-base.result).program) (longest_after (origin_of c.args.machine.now c.len-base.result))
     c.args.limits.now.states c.args.limits.now.turns c.search_shortest.result c.search_shortest.ensures.ends u e)

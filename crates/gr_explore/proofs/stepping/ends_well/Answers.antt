@@ -1,7 +1,7 @@
 use Rattle.std.proofs.Common.{sym, ◌∙◌, ap}
 use Rattle.gr_step.specs.Objects.{run_of}
 use Rattle.gr_step.specs.Stores.{contents_at}
-use Rattle.gr_explore.proofs.StepLemmas.{is_told, not_told, not_ended_if_faulted, not_ended_if_live}
+use Rattle.gr_explore.proofs.StepLemmas.{is_told}
 use Rattle.gr_explore.proofs.stepping.ends_well.Goals as goal
 
 pub returns-in-Ended : goal.returns-in-Ended
