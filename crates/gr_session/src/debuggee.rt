@@ -1,6 +1,6 @@
 //! A program under the debugger.
 
-ghost use Rattle.std.specs.Prelude.{IfOk};
+ghost use Rattle.std.specs.Prelude.{◌≡◌, IfOk};
 ghost use Rattle.gr_program.specs.Views.{program_of};
 ghost use Rattle.gr_rollback.specs.Running.{IsChecked};
 ghost use Rattle.gr_session.specs.Journal.{first_world};
@@ -44,5 +44,16 @@ impl Debuggee {
             lines: IndexMap::new(alloc),
             grant: 0,
         })
+    }
+    /// The machine.
+    pub(crate) fn into_machine(self) -> Machine
+        ensures { result ≡ self.machine }
+    {
+        let Debuggee {
+            machine,
+            lines: _,
+            grant: _,
+        } = self;
+        machine
     }
 }
