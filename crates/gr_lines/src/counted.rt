@@ -201,7 +201,7 @@ pub enum LineError {
 }
 
 /// The bytes before the first newline, and the rest.
-fn split_line(bytes: &[u8]) -> (&[u8], &[u8])
+pub fn split_line(bytes: &[u8]) -> (&[u8], &[u8])
     ensures cut { bytes.now ≡ result.0.now ++ result.1.now }
     ensures plain { Plain result.0.now }
     ensures rest { BeginsNewline result.1.now }

@@ -36,7 +36,7 @@ pub enum DebugFault {
 const BLOCK: usize = 8192;
 
 /// The bytes of the source; of a source that is too long, more than a text may have, and at most a block more.
-fn read_source<S: Read>(source: &mut Counted<S>, text: &mut Vec<u8>) -> Result<(), LineError>
+pub fn read_source<S: Read>(source: &mut Counted<S>, text: &mut Vec<u8>) -> Result<(), LineError>
     requires { length text.old.items ≡ 0 }
     ensures ok { OnOk result
         (SourceRead (S.remaining (device_of source.old)) (S.remaining (device_of source.new)) text.new.items) }
