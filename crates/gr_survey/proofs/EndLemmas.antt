@@ -1,0 +1,26 @@
+-- How a run ends badly where a machine stands.
+use Rattle.std.proofs.Common.{◌≡◌, ◌⊎◌, inl, inr, sym, ◌∙◌}
+use Rattle.gr_base.specs.declared.kinds.Fault.{Fault}
+use Rattle.gr_rules.specs.States.{Run, State, live, ended, faulted}
+use Rattle.gr_schedules.specs.Schedules.{IsBad}
+use Rattle.gr_survey.specs.declared.bad_end.BadEnd.TheVariants.{Stuck}
+use Rattle.gr_survey.specs.Schedules.{EndsAs}
+
+not_both : (f : Fault) (run : Run) → run ≡ live → run ≡ faulted f → ⊥
+not_both f run a b = cc
+
+not_ended_live : (run : Run) → run ≡ ended → run ≡ live → ⊥
+not_ended_live run a b = cc
+
+not_ended_faulted : (f : Fault) (run : Run) → run ≡ ended → run ≡ faulted f → ⊥
+not_ended_faulted f run a b = cc
+
+-- while the program runs, it ends badly where it is stuck
+pub stuck_if_live : (s : State) → s.run ≡ live → IsBad s → EndsAs s Stuck
+stuck_if_live s e (inl f) = absurd (not_both f.0 s.run e f.1)
+stuck_if_live s e (inr stuck) = stuck
+
+-- where it has ended, it does not end badly
+pub fine_if_ended : (s : State) → s.run ≡ ended → IsBad s → ⊥
+fine_if_ended s e (inl f) = not_ended_faulted f.0 s.run e f.1
+fine_if_ended s e (inr stuck) = not_ended_live s.run e stuck.0

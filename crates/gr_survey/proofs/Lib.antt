@@ -1,0 +1,7 @@
+mod Growing
+mod ScriptLemmas
+mod EndLemmas
+mod WrittenLemmas
+mod ScheduleLemmas
+mod OpenLemmas
+mod BlameLemmas
