@@ -102,6 +102,7 @@ STATUSES: dict[str, list[tuple[str, Optional[str]]]] = {
         ("rewind --explain N1 >/dev/null", ""),
         ("rewind --help >/dev/null", ""),
         ("rewind --version >/dev/null", ""),
+        ("rewind --search examples/leak.go", "no schedule ends badly\n"),
     ],
     "1": [
         ("rewind missing.go", "rewind: cannot read missing.go\n"),
@@ -117,10 +118,20 @@ STATUSES: dict[str, list[tuple[str, Optional[str]]]] = {
         ("rewind --explain XX", None),
         ("rewind --strange", None),
         ("rewind \"$(printf '\\377')\"", None),
+        ("rewind --blame two.go", None),
+        ("rewind two.go --states 5", None),
+        ("printf 'step g9\\n' | rewind --search two.go --after -", "rewind: the command in line 1 of - is refused\n"),
     ],
     "3": [
         ("rewind two.go </", "rewind: read\n"),
         ("echo step g0 | rewind two.go >/dev/full", "rewind: write\n"),
+    ],
+    "4": [
+        ("rewind --search examples/unbuffered.go 2>&1 >/dev/null", "a schedule of 3 steps ends in a deadlock\n"),
+        ("rewind --search examples/double_close.go 2>&1 >/dev/null", "a schedule of 20 steps ends in a panic\n"),
+    ],
+    "5": [
+        ("rewind --search examples/starved_select.go --states 200", None),
     ],
 }
 # Lines that the words of the page tell of, with the last line of their reply.

@@ -24,6 +24,8 @@ STANDS_FOR = {
     "FILE": r"\S+",
     "CODE": r"[SPC]\d+",
     "LINE:COL": r"\d+:\d+",
+    "LINE": r"\d+",
+    "SCRIPT": r"\S+",
 }
 
 

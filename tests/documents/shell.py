@@ -30,7 +30,9 @@ NAMED = set(
 ARCHIVE = {"bin": "clients", "examples": repository.SESSIONS}
 # What the words of a form of the command line stand for.
 EXAMPLE = f"{repository.SESSIONS}/deadlock.go"
-STANDING = {"FILE": EXAMPLE, "N": "2", "CODE": "N1"}
+STANDING = {"FILE": EXAMPLE, "N": "2", "CODE": "N1", "SCRIPT": "-"}
+# How forms may end that are no refusal: a search may find a schedule that ends badly, or meet its limit.
+ANSWERS = {"--search": {0, 4, 5}, "--blame": {0, 5}}
 # A line of output that stands for any lines, and a remark beside a line.
 ANY_LINES = ("..", "...")
 REMARK = re.compile(r"\s{2,}(<-|←|#) .*$")
@@ -127,7 +129,8 @@ def check_form(checks: Checks, program: Scratch, place: str, words: list[str]) -
     for form in alternatives(words):
         given = form[1: form.index("<")] if "<" in form else form[1:]
         ran = program.run([stood_for(program, it) for it in given])
-        checks.holds(place, ran.status == 0, f"{' '.join(form)}: status {ran.status}: {ran.err.strip()}")
+        answers = next((ANSWERS[it] for it in given if it in ANSWERS), {0})
+        checks.holds(place, ran.status in answers, f"{' '.join(form)}: status {ran.status}: {ran.err.strip()}")
 
 
 def check_options(checks: Checks, program: Scratch, block: Block) -> None:

@@ -2,18 +2,29 @@
 ghost use Rattle.std.specs.Prelude.{◌≡◌, ◌≤◌, [], IfOk, IfErr, IfSome, OnOk, Some, true, false, is_some, option_map, map, codes};
 ghost use Rattle.clap.specs.Words.{app_of, fault_of, found_of, first_value, kind_of, rows_of, rule_of, takes, matches_of};
 ghost use Rattle.clap.specs.Words.{with_rule};
-ghost use Rattle.gr_console.specs.CommandLine.{bare_line, rewind_line, file_rule, option_rule, workers_rule, count_in};
-ghost use Rattle.gr_console.specs.CommandLine.{debugs as session_over, alone as without_workers, the_one, asked_of, asked_in};
+ghost use Rattle.gr_console.specs.CommandLine.{bare_line, file_line, rewind_line, file_rule, option_rule, workers_rule, states_rule};
+ghost use Rattle.gr_console.specs.CommandLine.{debugs as session_over, searches as search_of, blames as blame_of};
+ghost use Rattle.gr_console.specs.CommandLine.{number_in, states_in, way_of, the_way, asked_with, asked_of, asked_by, asked_in};
 ghost use Rattle.gr_console.specs.CommandLine.{HasFewWorkers};
 
-use crate::settings::{Settings, WORKER_LIMIT};
+use crate::settings::{STATE_LIMIT, Settings, USUAL_STATES, WORKER_LIMIT};
 use crate::words::{
-    ABOUT, CHECK_HELP, EXPLAIN_HELP, FILE_HELP, HELP, NOTHING_ASKED, TOO_MUCH_ASKED, USAGE,
-    VERSION, WORKERS_HELP,
+    ABOUT, AFTER_HELP, BLAME_HELP, CHECK_HELP, EXPLAIN_HELP, FILE_HELP, HELP, NOTHING_ASKED,
+    SEARCH_HELP, STATES_HELP, TOO_MUCH_ASKED, USAGE, VERSION, WORKERS_HELP,
 };
 use clap::error::ErrorKind;
 use clap::{Arg, ArgAction, ArgMatches, Command, Error, value_parser};
 use std::alloc::{AllocError, Global};
+
+/// In which way something is asked, with the file or the code that is named.
+#[derive(Clone, Copy)]
+enum Way<'a> {
+    Session(&'a str),
+    Check(&'a str),
+    Explain(&'a str),
+    Search(&'a str),
+    Blame(&'a str),
+}
 
 fn file_argument<'a>(alloc: Global) -> Arg<'a>
     ensures rule { rule_of result ≡ file_rule }
@@ -58,6 +69,51 @@ fn workers_argument<'a>(alloc: Global) -> Arg<'a>
         .help(WORKERS_HELP)
 }
 
+fn search_argument<'a>(alloc: Global) -> Arg<'a>
+    ensures rule { rule_of result ≡ option_rule (codes "search") }
+    ensures own { result.global ≡ false }
+{
+    Arg::new(alloc, "search")
+        .long("search")
+        .value_name("FILE")
+        .action(ArgAction::Set)
+        .help(SEARCH_HELP)
+}
+
+fn blame_argument<'a>(alloc: Global) -> Arg<'a>
+    ensures rule { rule_of result ≡ option_rule (codes "blame") }
+    ensures own { result.global ≡ false }
+{
+    Arg::new(alloc, "blame")
+        .long("blame")
+        .value_name("FILE")
+        .action(ArgAction::Set)
+        .help(BLAME_HELP)
+}
+
+fn after_argument<'a>(alloc: Global) -> Arg<'a>
+    ensures rule { rule_of result ≡ option_rule (codes "after") }
+    ensures own { result.global ≡ false }
+{
+    Arg::new(alloc, "after")
+        .long("after")
+        .value_name("SCRIPT")
+        .action(ArgAction::Set)
+        .help(AFTER_HELP)
+}
+
+fn states_argument<'a>(alloc: Global) -> Arg<'a>
+    ensures rule { rule_of result ≡ states_rule }
+    ensures own { result.global ≡ false }
+{
+    Arg::new(alloc, "states")
+        .long("states")
+        .value_name("N")
+        .action(ArgAction::Set)
+        .value_parser(value_parser!(u64).range(1..=STATE_LIMIT as i64))
+        .help(STATES_HELP)
+}
+
 /// The command before its arguments.
 fn bare_command<'a>(alloc: Global) -> Command<'a>
     ensures { app_of result ≡ bare_line }
@@ -76,26 +132,37 @@ fn with_argument<'a>(command: Command<'a>, argument: Arg<'a>) -> Result<Command<
     command.arg(argument)
 }
 
-fn rewind_command<'a>(alloc: Global) -> Result<Command<'a>, AllocError>
-    ensures { IfOk result (λ command. app_of command ≡ rewind_line) }
+/// The command with the arguments that name a file.
+fn file_command<'a>(alloc: Global) -> Result<Command<'a>, AllocError>
+    ensures { IfOk result (λ command. app_of command ≡ file_line) }
 {
     let bare = bare_command(alloc);
     let with_file = with_argument(bare, file_argument(alloc))?;
     let with_check = with_argument(with_file, check_argument(alloc))?;
-    let with_explain = with_argument(with_check, explain_argument(alloc))?;
-    with_argument(with_explain, workers_argument(alloc))
+    let with_search = with_argument(with_check, search_argument(alloc))?;
+    with_argument(with_search, blame_argument(alloc))
 }
 
-/// The number of workers that a text gives.
-fn count(text: &str) -> Option<u32>
-    ensures count { result ≡ count_in text.now }
-    ensures few { IfSome result (λ n. n ≤ WORKER_LIMIT) }
+fn rewind_command<'a>(alloc: Global) -> Result<Command<'a>, AllocError>
+    ensures { IfOk result (λ command. app_of command ≡ rewind_line) }
 {
-    let Ok(count) = text.parse::<u32>() else {
+    let of_files = file_command(alloc)?;
+    let with_explain = with_argument(of_files, explain_argument(alloc))?;
+    let with_workers = with_argument(with_explain, workers_argument(alloc))?;
+    let with_after = with_argument(with_workers, after_argument(alloc))?;
+    with_argument(with_after, states_argument(alloc))
+}
+
+/// The number that a text gives, from the least to the greatest that is asked for.
+fn number(text: &str, least: u32, most: u32) -> Option<u32>
+    ensures number { result ≡ number_in least most text.now }
+    ensures few { IfSome result (λ n. n ≤ most) }
+{
+    let Ok(number) = text.parse::<u32>() else {
         return None;
     };
-    if count <= WORKER_LIMIT {
-        Some(count)
+    if least <= number && number <= most {
+        Some(number)
     } else {
         None
     }
@@ -108,41 +175,110 @@ fn debugs<'a>(file: &'a str, workers: Option<&str>) -> Option<Settings<'a>>
 {
     let workers = match workers {
         None => 0,
-        Some(text) => count(text)?,
+        Some(text) => number(text, 0, WORKER_LIMIT)?,
     };
     Some(Settings::Debug { file, workers })
 }
 
-/// What has no use for workers.
-fn alone<'a>(settings: Settings<'a>, workers: Option<&str>) -> Option<Settings<'a>>
-    requires { HasFewWorkers settings }
-    ensures asked { option_map asked_of result
-        ≡ without_workers (asked_of settings.entry) (option_map (λ text. text.now) workers.entry) }
+/// How many states a text asks for; without one the usual number.
+fn states(text: Option<&str>) -> Option<u32>
+    ensures { result ≡ states_in (option_map (λ text. text.now) text.entry) }
+{
+    match text {
+        None => Some(USUAL_STATES),
+        Some(text) => number(text, 1, STATE_LIMIT),
+    }
+}
+
+/// A search of a file, from where a script leaves it, if one is given.
+fn searches<'a>(file: &'a str, after: Option<&'a str>, asked: Option<&str>) -> Option<Settings<'a>>
+    ensures asked { option_map asked_of result ≡ search_of file.entry.now (option_map (λ text. text.now) after.entry)
+        (option_map (λ text. text.now) asked.entry) }
     ensures few { IfSome result HasFewWorkers }
 {
-    match workers {
-        None => Some(settings),
-        Some(_) => None,
+    let states = states(asked)?;
+    Some(Settings::Search {
+        file,
+        after,
+        states,
+    })
+}
+
+/// The blame of a step of a script.
+fn blames<'a>(file: &'a str, after: &'a str, asked: Option<&str>) -> Option<Settings<'a>>
+    ensures asked { option_map asked_of result
+        ≡ blame_of file.entry.now after.entry.now (option_map (λ text. text.now) asked.entry) }
+    ensures few { IfSome result HasFewWorkers }
+{
+    let states = states(asked)?;
+    Some(Settings::Blame {
+        file,
+        after,
+        states,
+    })
+}
+
+/// What is asked in one of these ways, with the options that go with it.
+fn with_options<'a>(
+    way: Way<'a>,
+    workers: Option<&str>,
+    after: Option<&'a str>,
+    states: Option<&str>,
+) -> Option<Settings<'a>>
+    ensures asked { option_map asked_of result ≡ asked_with (way_of way.entry) (option_map (λ text. text.now) workers.entry)
+        (option_map (λ text. text.now) after.entry) (option_map (λ text. text.now) states.entry) }
+    ensures few { IfSome result HasFewWorkers }
+{
+    match (way, workers, after, states) {
+        (Way::Session(file), workers, None, None) => debugs(file, workers),
+        (Way::Check(file), None, None, None) => Some(Settings::Check { file }),
+        (Way::Explain(code), None, None, None) => Some(Settings::Explain { code }),
+        (Way::Search(file), None, after, states) => searches(file, after, states),
+        (Way::Blame(file), None, Some(after), states) => blames(file, after, states),
+        _ => None,
+    }
+}
+
+/// The one way in which something is asked, if there is just one.
+fn only_way<'a>(
+    file: Option<&'a str>,
+    check: Option<&'a str>,
+    explain: Option<&'a str>,
+    search: Option<&'a str>,
+    blame: Option<&'a str>,
+) -> Option<Way<'a>>
+    ensures { option_map way_of result ≡ the_way (option_map (λ text. text.now) file.entry)
+        (option_map (λ text. text.now) check.entry) (option_map (λ text. text.now) explain.entry)
+        (option_map (λ text. text.now) search.entry) (option_map (λ text. text.now) blame.entry) }
+{
+    match (file, check, explain, search, blame) {
+        (Some(file), None, None, None, None) => Some(Way::Session(file)),
+        (None, Some(file), None, None, None) => Some(Way::Check(file)),
+        (None, None, Some(code), None, None) => Some(Way::Explain(code)),
+        (None, None, None, Some(file), None) => Some(Way::Search(file)),
+        (None, None, None, None, Some(file)) => Some(Way::Blame(file)),
+        _ => None,
     }
 }
 
 /// What was found on a command line, if that is just one thing.
 fn asked<'a>(matches: &ArgMatches<'a>) -> Option<Settings<'a>>
-    ensures asked { option_map asked_of result ≡ the_one (first_value (found_of matches.now) (codes "FILE"))
-        (first_value (found_of matches.now) (codes "check")) (first_value (found_of matches.now) (codes "explain"))
-        (first_value (found_of matches.now) (codes "workers")) }
+    ensures asked { option_map asked_of result ≡ asked_by (first_value (found_of matches.now)) }
     ensures few { IfSome result HasFewWorkers }
 {
-    let file = matches.get_str("FILE");
-    let check = matches.get_str("check");
-    let explain = matches.get_str("explain");
-    let workers = matches.get_str("workers");
-    match (file, check, explain) {
-        (Some(file), None, None) => debugs(file, workers),
-        (None, Some(file), None) => alone(Settings::Check { file }, workers),
-        (None, None, Some(code)) => alone(Settings::Explain { code }, workers),
-        _ => None,
-    }
+    let way = only_way(
+        matches.get_str("FILE"),
+        matches.get_str("check"),
+        matches.get_str("explain"),
+        matches.get_str("search"),
+        matches.get_str("blame"),
+    )?;
+    with_options(
+        way,
+        matches.get_str("workers"),
+        matches.get_str("after"),
+        matches.get_str("states"),
+    )
 }
 
 fn matches<'a>(alloc: Global, words: &'a [&'a str]) -> Result<ArgMatches<'a>, Error>
@@ -174,8 +310,8 @@ fn told(alloc: Global, kind: ErrorKind, message: &str) -> Result<Error, AllocErr
     command.error(kind, message)
 }
 
-/// What a command line asks for: `rewind FILE`, `rewind FILE --workers N`, `rewind --check FILE` or `rewind --explain CODE`.
-/// Its first word is the program's own name.
+/// What a command line asks for: `rewind FILE`, `rewind FILE --workers N`, `rewind --check FILE`, `rewind --explain CODE`,
+/// `rewind --search FILE` or `rewind --blame FILE --after SCRIPT`. Its first word is the program's own name.
 ///
 /// An error is `clap`'s, with its words for the user. The command line is of none of these forms, asks for help or the version,
 /// or there is no memory for it.
@@ -194,7 +330,9 @@ pub fn settings<'a>(alloc: Global, words: &'a [&'a str]) -> Result<Settings<'a>,
         None => {
             let nothing = found.get_str("FILE").is_none()
                 && found.get_str("check").is_none()
-                && found.get_str("explain").is_none();
+                && found.get_str("explain").is_none()
+                && found.get_str("search").is_none()
+                && found.get_str("blame").is_none();
             Err(unclear(alloc, nothing))
         }
     }

@@ -10,6 +10,8 @@ nothing else.";
 pub(crate) const USAGE: &str = "\
 rewind [--workers <N>] <FILE>
        rewind --check <FILE>
+       rewind --search <FILE> [--after <SCRIPT>] [--states <N>]
+       rewind --blame <FILE> --after <SCRIPT> [--states <N>]
        rewind --explain <CODE>";
 
 pub(crate) const HELP: &str = "\
@@ -41,14 +43,19 @@ the first channel that it made, 'g0#4' its fourth step. G is a goroutine, C a
 channel, ID or G#N a step, N and K numbers, X a variable.
 
 Exit status:
-  0  'quit', or the end of the commands; a source that '--check' accepts;
-     '--explain', '--help', '--version'
+  0  'quit', or the end of the commands; a source that '--check' accepts; no
+     schedule ends badly for '--search'; the answer of '--blame'; '--explain',
+     '--help', '--version'
   1  FILE cannot be read, or is refused
-  2  the command line is refused. It has none or several of FILE, '--check'
-     and '--explain'. Its workers are not 0 to 64, or stand without FILE. Its
-     CODE is none, an option is unknown, or an argument is not UTF-8
+  2  the command line is refused. It has none or several of FILE, '--check',
+     '--explain', '--search' and '--blame'. Its workers are not 0 to 64, or
+     stand without FILE. Its CODE is none, an option is unknown or stands
+     where it has no use, or an argument is not UTF-8. Or a command of SCRIPT
+     is refused
   3  reading, writing or starting threads failed, or there is no memory
      (before the end of the check that is S8, P4 or C11, with status 1)
+  4  '--search' found a schedule that ends badly
+  5  '--search' or '--blame' met a limit
 
 Example:
   $ printf 'step g0\\nstep g0\\nlog\\nundo\\nquit\\n' | rewind first.go
@@ -64,10 +71,10 @@ Example:
 command and reply.";
 
 pub(crate) const NOTHING_ASKED: &str = "\
-one of FILE, '--check <FILE>' and '--explain <CODE>' is required";
+one of FILE, '--check <FILE>', '--explain <CODE>', '--search <FILE>' and '--blame <FILE>' is required";
 
 pub(crate) const TOO_MUCH_ASKED: &str = "\
-FILE, '--check <FILE>' and '--explain <CODE>' exclude each other, and '--workers <N>' goes with FILE alone";
+FILE, '--check <FILE>', '--explain <CODE>', '--search <FILE>' and '--blame <FILE>' exclude each other. '--workers <N>' goes with FILE alone. '--after <SCRIPT>' and '--states <N>' go with '--search' and '--blame', and '--blame' needs '--after'";
 
 pub(crate) const FILE_HELP: &str = "The source to debug, by the commands on standard input";
 
@@ -76,6 +83,18 @@ The number of workers (0 to 64), which take steps on their own, as many in all a
 
 pub(crate) const CHECK_HELP: &str = "\
 Only checks the source: prints nothing if it is accepted, else the line of its refusal";
+
+pub(crate) const SEARCH_HELP: &str = "\
+Searches all schedules for one that ends badly, and writes its commands";
+
+pub(crate) const BLAME_HELP: &str = "\
+Finds the first step of SCRIPT's run after which no schedule ends well any more";
+
+pub(crate) const AFTER_HELP: &str = "\
+The commands that are carried out before the search; '-' is standard input";
+
+pub(crate) const STATES_HELP: &str = "\
+The greatest number of states that a search keeps (1 to 1000000000; 1000000 without it)";
 
 pub(crate) const EXPLAIN_HELP: &str = "\
 Says what a code, a fault, a kind of step or an end of a run means, and what to do";
@@ -96,6 +115,8 @@ error: invalid UTF-8 was detected in one or more arguments
 
 Usage: rewind [--workers <N>] <FILE>
        rewind --check <FILE>
+       rewind --search <FILE> [--after <SCRIPT>] [--states <N>]
+       rewind --blame <FILE> --after <SCRIPT> [--states <N>]
        rewind --explain <CODE>
 
 For more information, try '--help'.
