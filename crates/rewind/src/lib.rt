@@ -2,9 +2,11 @@
 #![tactic(auto)]
 
 pub mod desk;
+pub mod searching;
 mod started;
 pub mod workers;
 
+pub use gr_base::print_step;
 pub use gr_console::{command_line, explanations, settings, terminal, words};
 pub use gr_lines::counted;
 pub use gr_serve::{debug, report, stream};

@@ -1,11 +1,14 @@
 //! The program `rewind`. `rewind FILE` debugs the Go program in FILE by the commands of standard input, `rewind --check FILE`
-//! only tells whether it is accepted, and `rewind --explain CODE` tells what a code means.
+//! only tells whether it is accepted, and `rewind --explain CODE` tells what a code means. `rewind --search FILE` searches all
+//! schedules for one that ends badly, and `rewind --blame FILE --after SCRIPT` tells after which step none ends well any more.
 //!
-//! Exit status: 0 at `quit` or at the end of the commands; 1 where FILE cannot be read or is no program, with one line on
-//! standard error; 2 where the command line is refused; 3 where reading, writing or threads failed, or it is out of memory.
+//! Exit status: 0 at `quit` or at the end of the commands, and where a search has its answer; 1 where FILE cannot be read or is no
+//! program, with one line on standard error; 2 where the command line or a command of SCRIPT is refused; 3 where reading, writing
+//! or threads failed, or it is out of memory; 4 where a schedule ends badly; 5 where a search met a limit.
 #![tactic(auto)]
 
 mod files;
+mod searching;
 
 use clap::error::{Error, ErrorKind};
 use files::tell_of;
@@ -19,6 +22,7 @@ use rewind::stream::ServeFault;
 use rewind::terminal::{Explained, Prompted};
 use rewind::words::{NOT_TEXT, STRANGE_CODE};
 use rewind::workers::debug_beside;
+use searching::{blame_file, search_file};
 use std::fs::File;
 use std::io::{BufRead, BufReader, ErrorKind as IoErrorKind, IsTerminal, Read, Write};
 use std::process::ExitCode;
@@ -34,7 +38,7 @@ fn is_at_terminal(rt: &HostRuntime) -> bool {
 }
 
 /// Tells a fault on standard error: its line, and plain words at a terminal.
-fn fail(rt: &HostRuntime, fault: &DebugFault, file: &str) -> ExitCode {
+pub(crate) fn fail(rt: &HostRuntime, fault: &DebugFault, file: &str) -> ExitCode {
     let mut line = Vec::new(rt.alloc());
     if report(fault, file, &mut line).is_ok() {
         let _ = rt.stderr().write_all(line.as_slice());
@@ -143,6 +147,20 @@ fn run<T: Threads + Wait + Sync>(rt: &HostRuntime, threads: &T) -> io::Result<Ex
         Ok(Settings::Debug { file, workers }) => debug_file(rt, threads, file, workers),
         Ok(Settings::Check { file }) => check_file(rt, file),
         Ok(Settings::Explain { code }) => Ok(explain_code(rt, code)),
+        Ok(
+            Settings::Search {
+                file,
+                after,
+                states,
+            },
+        ) => search_file(rt, file, after, states),
+        Ok(
+            Settings::Blame {
+                file,
+                after,
+                states,
+            },
+        ) => blame_file(rt, file, after, states),
         Err(error) => Ok(refuse(rt, &error)),
     }
 }
