@@ -6,7 +6,7 @@ crates/NAME/must-fail and crates/NAME/edits:
 - Each applies to its files, no two of a crate have one name or make one change;
 - each changes code and not only what is said of it, but for those of definitions in crates/NAME/edits: of a crate whose
   functions do nothing, or of a module that laws alone name;
-- must-fail has at most 49, docs/EDITS.md has one row for each of these, and its functions and clauses are there;
+- must-fail has at most 50, docs/EDITS.md has one row for each of these, and its functions and clauses are there;
 - the numbers of the others in docs/EDITS.md are right.
 """
 from __future__ import annotations
@@ -21,7 +21,7 @@ import pytest
 from support.places import TOP
 
 TABLE = "docs/EDITS.md"
-MOST = 49
+MOST = 50
 GATE, OTHERS = "must-fail", "edits"
 # The crates whose functions do nothing: their contracts are examples and laws.
 WITHOUT_CODE = {"gr_bounds", "gr_code", "gr_laws", "gr_may", "gr_rules", "gr_schedules", "litmus"}
