@@ -45,6 +45,8 @@ class Session:
         self.unchanged = 0
         self.kept_ledger: Optional[Ledger] = Ledger()
         self.taken_back: dict[str, Entry] = {}
+        # The commands from the start to the bad end that a search has found.
+        self.schedule: tuple[str, ...] = ()
         self.shown: dict[str, Optional[Goroutine]] = {}
         self.channels_shown: dict[str, Optional[Channel]] = {}
 

@@ -5,6 +5,7 @@ import io
 
 from rewind_client.finding import explained
 from rewind_client.program import Program
+from rewind_client.searching import Searched, search_from
 from rewind_client.session import Session
 from rewind_client.stories import Stories
 from rewind_shell.desk import Stops
@@ -48,6 +49,9 @@ class Answer:
 
     def explained(self, code: str) -> list[str]:
         return explained(self.debuggee.launch.rewind, code)
+
+    def searched(self, states: int) -> Searched:
+        return search_from(self.debuggee.launch.rewind, self.session, states)
 
     def tell_chosen(self) -> None:
         found = self.session.goroutine(self.chosen)

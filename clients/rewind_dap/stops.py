@@ -56,7 +56,7 @@ def in_words(session: Session, view: View, found: motion.Stop) -> Stop:
     if reason in (StopReason.VALUE, StopReason.VALUE_TAKEN_BACK) and found.entry and found.watch:
         return Stop("data breakpoint", name, watch_in_words(session, found.entry, found), watch=found.watch)
     if reason is StopReason.DEADLOCK:
-        return Stop("deadlock", name, "Deadlock: no goroutine is ready", deadlock(session))
+        return stuck(session, name)
     if reason is StopReason.FULL:
         return Stop("pause", name, "The log is full: take steps back to go on")
     if reason is StopReason.MEMORY:
@@ -64,6 +64,17 @@ def in_words(session: Session, view: View, found: motion.Stop) -> Stop:
     if reason is StopReason.ENTRY:
         return Stop("entry", "g0", "The start of the program")
     return Stop("step", name, f"After {found.entry.step} {found.entry.kind}" if found.entry else "Stopped")
+
+
+def behind_commands(session: Session, name: str, words: str) -> Stop:
+    """Why the program stands behind some commands: that it can go no further, or else the words given."""
+    if session.stopped_by():
+        return end(session)
+    return Stop("step", name, words) if session.ready() else stuck(session, name)
+
+
+def stuck(session: Session, name: str) -> Stop:
+    return Stop("deadlock", name, "Deadlock: no goroutine is ready", deadlock(session))
 
 
 def deadlock(session: Session) -> str:

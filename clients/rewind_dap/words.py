@@ -10,6 +10,7 @@ from rewind_client.core import with_plain_blanks, words_of
 from rewind_client.errors import RewindError
 from rewind_client.names import is_step
 from rewind_client.replies import Goroutine, is_ok
+from rewind_client.searching import ahead
 from rewind_shell.looking import Looking
 from rewind_shell.moving import never_there, no_variable
 from rewind_shell.saving import read_script, write_script
@@ -19,7 +20,7 @@ from .answer import Answer
 from .arguments import Arguments, BadRequest
 from .debuggee import Debuggee
 from .runs import How, along, backward, forward
-from .stops import Stop, end, step_back, taken
+from .stops import behind_commands, step_back, taken
 
 if TYPE_CHECKING:
     from .adapter import Adapter
@@ -45,6 +46,7 @@ class Words:
             "reverse-continue": lambda debuggee, one, words: self.adapter.begin(backward(debuggee)),
             "back": self.back,
             "load": self.load,
+            "follow": self.follow,
             "restart": lambda debuggee, one, words: self.restart(),
         }
 
@@ -111,8 +113,16 @@ class Words:
                 refused += not is_ok(reply)
                 if given[0] in ("break", "clear") and is_ok(reply):
                     debuggee.breakpoints.note_command(given)
-        stop = Stop("step", goroutine.name, f"After the commands of {path}, {refused} of them refused")
-        self.adapter.stop_at(end(debuggee.session) if debuggee.session.stopped_by() else stop)
+        told = f"After the commands of {path}, {refused} of them refused"
+        self.adapter.stop_at(behind_commands(debuggee.session, goroutine.name, told))
+
+    def follow(self, debuggee: Debuggee, goroutine: Goroutine, _words: list[str]) -> None:
+        """Takes the steps of the schedule that a search found."""
+        commands = ahead(debuggee.session)
+        for command in commands:
+            debuggee.session.ask(command)
+        told = f"After {len(commands)} steps of the schedule that was found"
+        self.adapter.stop_at(behind_commands(debuggee.session, goroutine.name, told))
 
     # Looks.
 

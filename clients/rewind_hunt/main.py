@@ -7,10 +7,11 @@ from collections.abc import Iterable, Sequence
 from typing import Optional, TextIO
 
 from rewind_client.carried import left_of
-from rewind_client.errors import RewindError, SourceRefused
+from rewind_client.errors import ProcessError, RewindError, SourceRefused
 from rewind_client.opening import carried_over
 from rewind_client.program import Program, read_program
 from rewind_client.refusals import explain_refusal
+from rewind_client.searching import DEADLOCK, Answer, Searched, search
 from rewind_client.versions import version_of
 from rewind_shell.saving import write_script
 
@@ -19,7 +20,7 @@ from .hunting import Found, Hunt, hunt
 from .options import Form, Wanted, wanted
 from .outcomes import Kind
 from .records import Record, Told, failure, record_of, sarif
-from .report import CHANCE, Report
+from .report import Report, by_search, last_line
 from .scripts import Reducer
 from .shortening import Short, Shortener
 from .story import Story
@@ -31,6 +32,8 @@ WORST = (FAULT, SOMETHING, OPEN, NOTHING)
 BAR = 30
 # So many things that were found get a script, unless all are wanted.
 TOLD = 3
+# So long all schedules are searched first, before some are taken by chance.
+SEARCH_SECONDS = 1.0
 
 
 def main(words: list[str]) -> int:
@@ -113,6 +116,13 @@ class Teller:
         print(f"rewind-hunt: {program.told()}", file=sys.stderr)
         return program
 
+    def searched(self) -> Optional[Searched]:
+        """What a search of all schedules tells; nothing where the `rewind` makes none."""
+        try:
+            return search(self.plan.rewind, self.plan.path, seconds=SEARCH_SECONDS)
+        except ProcessError:
+            return None
+
     def hunted(self) -> Hunt:
         progress = Progress(len(self.plan.numbers()), sys.stderr)
         found = hunt(self.plan, progress.told)
@@ -121,7 +131,7 @@ class Teller:
 
     def record(self) -> Record:
         """All of it as data."""
-        found = self.hunted()
+        searched, found = self.searched(), self.hunted()
         report, reducer, told = Report(found, self.program, True), Reducer(found, self.program), []
         try:
             for one, outcomes in found.groups().items():
@@ -130,17 +140,21 @@ class Teller:
                 told.append(Told(one, outcomes, short, way))
         finally:
             reducer.end()
-        return record_of(found, told, report, SOMETHING if told else OPEN if found.is_open() else NOTHING)
+        is_bad = bool(told) or bool(searched and is_found_by_search(searched, found))
+        return record_of(found, told, report, searched, SOMETHING if is_bad else OPEN if found.is_open() else NOTHING)
 
     def status(self) -> int:
         """Tells all of it: the exit status."""
-        found = self.hunted()
+        searched, found = self.searched(), self.hunted()
         report = Report(found, self.program, self.given.full)
         say(report.summary())
         bad = list(found.groups())
         self.tell_scripts(found, report, bad)
-        say(["", CHANCE])
-        return SOMETHING if bad else OPEN if found.is_open() else NOTHING
+        is_more = bool(searched and is_found_by_search(searched, found))
+        if searched and is_more:
+            say(["", *by_search(searched, self.given.full)])
+        say(["", last_line(searched)])
+        return SOMETHING if bad or is_more else OPEN if found.is_open() else NOTHING
 
     def tell_scripts(self, found: Hunt, report: Report, bad: list[Found]) -> None:
         """The commands to what is bad, and where the user wants that to each different output."""
@@ -180,6 +194,13 @@ class Teller:
             return path
         write_script(path, short.commands, self.program)
         return None
+
+
+def is_found_by_search(searched: Searched, found: Hunt) -> bool:
+    """Whether the search has come to a bad end that counts, and no schedule that was taken to one of its kind."""
+    kind = Kind.DEADLOCK if DEADLOCK in searched.sentence else Kind.PANIC
+    met = {one.kind for outcome in found.outcomes for one in found.against(outcome)}
+    return searched.answer is Answer.BAD and kind not in met and kind not in found.plan.ignored
 
 
 def say(lines: Iterable[str]) -> None:

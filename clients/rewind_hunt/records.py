@@ -4,6 +4,8 @@ from __future__ import annotations
 from collections.abc import Iterator, Sequence
 from typing import Any, NamedTuple, Optional
 
+from rewind_client.searching import Answer, Searched
+
 from .hunting import Found, Hunt
 from .outcomes import Kind, Outcome, Spot
 from .report import Report
@@ -11,6 +13,7 @@ from .shortening import Short
 from .ways import WayBack
 
 Record = dict[str, Any]
+ANSWERS = {Answer.NONE_BAD: "no schedule ends badly", Answer.BAD: "a schedule ends badly", Answer.NOT_FINISHED: "not finished"}
 SCHEMA = "https://json.schemastore.org/sarif-2.1.0.json"
 RULES = {
     Kind.PANIC: "A schedule ends in a panic.",
@@ -30,11 +33,12 @@ class Told(NamedTuple):
     way: Optional[WayBack]
 
 
-def record_of(hunted: Hunt, told: Sequence[Told], report: Report, status: int) -> Record:
-    """What was found in a file."""
+def record_of(hunted: Hunt, told: Sequence[Told], report: Report, searched: Optional[Searched], status: int) -> Record:
+    """What was found in a file, and what a search of all its schedules told, where there was one."""
     return {
         "file": hunted.plan.name,
         "status": status,
+        "search": {"answer": ANSWERS[searched.answer], "commands": list(searched.commands)} if searched else None,
         "seed": hunted.plan.seed,
         "schedules": len(hunted.outcomes),
         "ends": list(ends(hunted)),

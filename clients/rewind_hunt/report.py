@@ -5,12 +5,12 @@ import os
 import re
 import shlex
 from collections.abc import Iterator, Sequence
-from itertools import groupby
 from typing import Optional
 
 from rewind_client.explanations import explain
 from rewind_client.meanings import FAULTS
 from rewind_client.program import Program
+from rewind_client.searching import Answer, Searched, repeated
 from rewind_client.sentences import Sentences
 
 from .hunting import Found, Hunt, Row
@@ -34,6 +34,7 @@ MOST_SPOTS = 4
 WIDTH = 60
 PRINTED = 100
 CHANCE = "This is a hunt by chance: what it did not find may still be there."
+CERTAIN = "No schedule is stuck or panics: all were searched. Leaks and outputs are hunted by chance, and may still be there."
 SPECIAL = re.compile(r"[\\.^$*+?{}\[\]|()]")
 
 
@@ -226,6 +227,17 @@ class Report:
         return ["    " + line for line in lines]
 
 
+def last_line(searched: Optional[Searched]) -> str:
+    """How far the findings go, by what a search of all schedules told."""
+    return CERTAIN if searched and searched.answer is Answer.NONE_BAD else CHANCE
+
+
+def by_search(searched: Searched, is_full: bool) -> list[str]:
+    """A schedule that only the search has found."""
+    told = list(searched.commands) if is_full else [in_line(searched.commands)]
+    return [f"found by a search of all schedules: {searched.sentence}", *("    " + line for line in told)]
+
+
 def expecting(console: tuple[str, ...], others: Sequence[tuple[str, ...]]) -> str:
     """The pattern, as a shell takes it, that an output matches and no other one: a line of it where that is enough."""
     texts = ["\n".join(other) for other in others]
@@ -248,10 +260,7 @@ def shortened(text: str) -> str:
 
 def in_line(commands: Sequence[str]) -> str:
     """Commands in one line; the same one over and over is told once."""
-    told = []
-    for command, same in groupby(commands):
-        count = len(list(same))
-        told.append(command if count == 1 else f"{command} ({count} times)")
+    told = repeated(commands)
     return "; ".join(told if len(told) <= MOST_COMMANDS else [*told[:MOST_COMMANDS], ".. (--script FILE keeps all)"])
 
 

@@ -4,6 +4,7 @@ from __future__ import annotations
 from typing import AbstractSet, Protocol
 
 from rewind_client.program import Program
+from rewind_client.searching import Searched
 from rewind_client.session import Session
 
 from .terminal import Screen
@@ -58,6 +59,9 @@ class Desk(Protocol):
 
     def explained(self, code: str) -> list[str]:
         """What Rewind tells of a code; nothing where it is none."""
+
+    def searched(self, states: int) -> Searched:
+        """What comes of a search of all schedules from here."""
 
     def tell_chosen(self) -> None:
         """Says where the chosen goroutine stands."""

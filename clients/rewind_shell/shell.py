@@ -18,6 +18,7 @@ from rewind_client.printed import change
 from rewind_client.program import Program, read_program
 from rewind_client.refusals import explain_refusal
 from rewind_client.replies import Entry, State
+from rewind_client.searching import Searched, ahead, search_from
 from rewind_client.stories import Stories
 
 from .interrupts import Interrupts
@@ -53,7 +54,9 @@ class Shell:
         self.begin()
         self.breakpoints: Breakpoints = Breakpoints(self.session)
         looking, moving = Looking(self), Moving(self)
-        own: dict[str, Callable[[list[str]], None]] = {"save": self.save, "load": self.load, "restart": self.restart}
+        own: dict[str, Callable[[list[str]], None]] = {
+            "save": self.save, "load": self.load, "restart": self.restart, "follow": self.follow
+        }
         self.handlers = {**looking.handlers(), **moving.handlers(), **own}
 
     def begin(self) -> None:
@@ -239,6 +242,14 @@ class Shell:
     def explained(self, code: str) -> list[str]:
         """What Rewind tells of a code; nothing where it is none."""
         return explained(self.rewind, code)
+
+    def searched(self, states: int) -> Searched:
+        """What comes of a search of all schedules from here."""
+        return search_from(self.rewind, self.session, states, self.interrupts.pending)
+
+    def follow(self, _words: list[str]) -> None:
+        """Takes the steps of the schedule that a search found."""
+        self.take(ahead(self.session), "the schedule")
 
     def save(self, words: list[str]) -> None:
         if not words:

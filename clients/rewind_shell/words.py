@@ -53,6 +53,14 @@ LOOKING = [
         1,
     ),
     Word("direct", "d", "direct STEP", "the direct causes of a step; 'causes STEP' shows all"),
+    Word(
+        "search",
+        "",
+        "search [STATES]",
+        "whether some schedule from here is stuck or ends in a panic: all are searched",
+        "So many states at most, or 1000000. Ctrl-C ends it. 'follow' takes the steps that were found.",
+        1,
+    ),
 ]
 MOVING = [
     Word("step", "s", "step [N]", "N steps of the chosen goroutine", "'step G' and 'step G CASE' go to Rewind unchanged."),
@@ -77,6 +85,7 @@ MOVING = [
         "LINE is where the chosen goroutine was last, X a variable of it. The forms with a goroutine, a channel or a step go to"
         " Rewind unchanged: 'back G#N', 'back go G', 'back send C K', 'back recv C K', 'back var G X'.",
     ),
+    Word("follow", "", "follow", "take the steps of the schedule that 'search' found", most=0),
     Word("preview", "pv", "preview G#N | preview var X ..", "what 'back' would take back, which stays"),
     Word(
         "break",
@@ -143,6 +152,7 @@ HINTS = {
     "causes": "causes wants a step: causes g0.1#3",
     "break": "break wants a line or a function: break 12, break main",
     "clear": "clear wants the line of a breakpoint: clear 12",
+    "search": "search may have the number of states to search, from 1 to 1000000000: search 20000",
     "free": "free wants a number from 0 to 1000000: free 100",
     "show": "show wants a goroutine: show g0",
     "chan": "chan wants a channel: chan g0/c1; 'channels' lists them",

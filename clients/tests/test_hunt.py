@@ -416,7 +416,7 @@ def test_nothing_found(rewind: str, source: Callable[[str], Path]) -> None:
     done = run(rewind, "--runs", "30", str(source(GOOD)))
     assert done.returncode == 0 and done.stderr == ""
     assert "    30  ended            42\n" in done.stdout
-    assert done.stdout.endswith("This is a hunt by chance: what it did not find may still be there.\n")
+    assert done.stdout.endswith("Leaks and outputs are hunted by chance, and may still be there.\n")
 
 
 def test_something_found(rewind: str, tmp_path: Path) -> None:

@@ -304,7 +304,7 @@ class TestWords(Desk):
         wants.update({"run": "3", "deps": "g0#1", "causes": "g0#1", "show": "g0", "chan": "g0/c1", "text": "g0", "free": "0"})
         wants.update({"print": "done", "break": "15", "order": "g0#1"})
         self.start(LOST_UPDATE)
-        words = [one for one in WORDS if one.name != "quit"]
+        words = [one for one in WORDS if one.name not in ("quit", "follow")]
         assert len(words) > 30
         for one in sorted(words, key=lambda word: word.name == "load"):
             for name in filter(None, (one.name, one.short)):
@@ -317,6 +317,12 @@ class TestWords(Desk):
                 self.client.ask("pause")
                 self.client.stop()
                 self.client.events = []
+
+    def test_a_schedule_that_is_found_is_followed(self) -> None:
+        self.start("deadlock.go")
+        assert not self.client.ask("evaluate", {"expression": "follow", "context": "repl"})["success"]
+        assert "ends in a deadlock" in self.typed("search")
+        assert self.moved("follow")["reason"] == "deadlock"
 
     def test_a_word_that_sets_the_program_going_is_told(self) -> None:
         self.start(LOST_UPDATE)

@@ -1,0 +1,139 @@
+"""A search of all schedules, as the clients tell it: in the shell, before a hunt, and in the library."""
+from __future__ import annotations
+
+import json
+import os
+import subprocess
+import sys
+from collections.abc import Callable, Sequence
+from pathlib import Path
+
+import pytest
+
+from rewind_client.errors import Cancelled, ProcessError, RewindError
+from rewind_client.opening import open_session
+from rewind_client.searching import Answer, ahead, search, search_from
+
+from support.places import CLIENTS, EXAMPLES
+
+# What comes of a search of each example.
+EXPECTED = {
+    "double_close": "panic",
+    "forgotten_unlock": "deadlock",
+    "leak": "",
+    "lock_order": "deadlock",
+    "lost_update": "",
+    "off_by_one": "deadlock",
+    "philosophers": "deadlock",
+    "send_on_closed": "panic",
+    "unbuffered": "deadlock",
+    "worker_pool": "panic",
+}
+# A deadlock to which a round robin does not come: the other goroutine takes what is in the channel.
+THIEF = """package main
+
+func thief(c chan int) {
+	select {
+	case <-c:
+	default:
+	}
+}
+
+func main() {
+	c := make(chan int, 1)
+	go thief(c)
+	c <- 1
+	<-c
+}
+"""
+Run = Callable[..., "subprocess.CompletedProcess[str]"]
+
+
+def example(name: str) -> str:
+    return str(EXAMPLES / f"{name}.go")
+
+
+def client(name: str, rewind: str, words: Sequence[str], given: str, state: Path) -> "subprocess.CompletedProcess[str]":
+    environment = {**os.environ, "XDG_STATE_HOME": str(state), "REWIND": rewind}
+    command = [sys.executable, str(CLIENTS / name), *words]
+    return subprocess.run(command, input=given, capture_output=True, text=True, env=environment, timeout=120)
+
+
+@pytest.fixture
+def talk(rewind: str, tmp_path: Path) -> Run:
+    """Gives commands to a shell."""
+    return lambda source, *lines: client("rewind-shell", rewind, [source], "".join(line + "\n" for line in lines), tmp_path)
+
+
+@pytest.fixture
+def hunt(rewind: str, tmp_path: Path) -> Run:
+    """Hunts, by few schedules."""
+    return lambda *words: client("rewind-hunt", rewind, ["--jobs", "1", "--runs", "5", *words], "", tmp_path)
+
+
+@pytest.mark.parametrize("name", EXPECTED)
+def test_an_example(name: str, rewind: str) -> None:
+    """The commands that are found come to the bad end that is told."""
+    found = search(rewind, example(name))
+    assert found.answer is (Answer.BAD if EXPECTED[name] else Answer.NONE_BAD), found
+    assert EXPECTED[name] in found.sentence
+    if EXPECTED[name]:
+        session = open_session(rewind, example(name))
+        replies = session.core.ask_all(found.commands)
+        assert all(reply[-1].startswith("ok") for reply in replies)
+        assert session.ask("run 1")[-1] == {"deadlock": "ok 0 stuck", "panic": "ok 0 fault"}[EXPECTED[name]]
+        session.end()
+
+
+def test_from_the_present_state(rewind: str) -> None:
+    """The schedule goes on from there; after other steps it is not followed."""
+    session = open_session(rewind, example("lock_order"))
+    with pytest.raises(RewindError, match="no schedule is found yet"):
+        ahead(session)
+    session.ask("run 5")
+    found = search_from(rewind, session, 1000)
+    assert list(found.commands) == [*["step g0"] * 5, *ahead(session)]
+    session.ask(ahead(session)[0])
+    assert len(ahead(session)) == len(found.commands) - 6
+    session.end()
+
+
+def test_a_limit_is_no_answer(rewind: str) -> None:
+    assert search(rewind, example("lock_order"), states=3).answer is Answer.NOT_FINISHED
+    assert search(rewind, example("starved_select"), seconds=0.2).answer is Answer.NOT_FINISHED
+    with pytest.raises(Cancelled):
+        search(rewind, example("starved_select"), cancelled=lambda: True)
+
+
+def test_a_search_that_cannot_be_made(rewind: str, tmp_path: Path) -> None:
+    with pytest.raises(ProcessError):
+        search(rewind, str(tmp_path / "missing.go"))
+    with pytest.raises(ProcessError):
+        search(str(tmp_path / "missing"), example("lock_order"))
+    with pytest.raises(ProcessError, match="refused"):
+        search(rewind, example("lock_order"), ["step g0.7"])
+
+
+def test_search_and_follow_in_the_shell(talk: Run) -> None:
+    told = talk(example("lock_order"), "run 5", "search", "follow", "search", "undo", "step g0.1", "follow").stdout
+    assert "ends in a deadlock" in told and "'follow' takes these steps" in told
+    assert "commands of the schedule were taken, 0 of them refused" in told and "Deadlock: g0, g0.1, g0.2 wait" in told
+    assert "the program stands there" in told
+
+
+def test_words_that_do_not_fit(talk: Run) -> None:
+    told = talk(example("lost_update"), "follow", "search 0", "search x", "search 1 2", "search", "follow").stdout
+    assert told.count("no schedule is found yet") == 2
+    assert told.count("search may have the number of states") == 2 and "is not taken" in told
+    assert "no schedule ends badly" in told
+
+
+def test_a_hunt_searches_first(hunt: Run, tmp_path: Path) -> None:
+    assert "No schedule is stuck or panics: all were searched." in hunt(example("lost_update")).stdout
+    thief = tmp_path / "thief.go"
+    thief.write_text(THIEF)
+    done = hunt(str(thief), "--scheduler", "round-robin")
+    assert done.returncode == 1 and "found by a search of all schedules: a schedule of " in done.stdout
+    assert hunt(str(thief), "--scheduler", "round-robin", "--ignore", "deadlock").returncode == 0
+    record = json.loads(hunt(str(thief), "--scheduler", "round-robin", "--json").stdout)
+    assert record["status"] == 1 and record["found"] == [] and record["search"]["answer"] == "a schedule ends badly"
