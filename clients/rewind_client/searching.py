@@ -4,10 +4,11 @@ from __future__ import annotations
 import subprocess
 import time
 from collections.abc import Callable, Sequence
+from contextlib import AbstractContextManager
 from dataclasses import dataclass
 from enum import Enum
 from itertools import groupby
-from typing import Optional
+from typing import NamedTuple, Optional
 
 from .core import step_command
 from .errors import Cancelled, ProcessError, RewindError
@@ -39,6 +40,21 @@ class Searched:
     commands: tuple[str, ...] = ()
 
 
+class Blamed(NamedTuple):
+    """The step behind which no schedule ends well any more, or an empty text; and a sentence of Rewind."""
+
+    step: str
+    sentence: str
+
+
+class Run(NamedTuple):
+    """A search that has ended: its exit status, and what it wrote."""
+
+    status: int
+    out: list[str]
+    sentence: str
+
+
 def search(
     rewind: str,
     path: str,
@@ -52,24 +68,33 @@ def search(
     Raises Cancelled where the user stopped waiting, and ProcessError where Rewind gives none of its answers. A search that lasts
     longer than `seconds` is ended, and is not finished.
     """
-    words = [rewind, "--search", path, "--after", "-", "--states", str(states)]
+    run = ran(rewind, ["--search", path, "--states", str(states)], commands, seconds, cancelled)
+    if run is None:
+        return Searched(Answer.NOT_FINISHED, f"not finished within {seconds:g} seconds")
+    return Searched(Answer(run.status), run.sentence, tuple(run.out))
+
+
+def ran(
+    rewind: str, words: Sequence[str], commands: Sequence[str], seconds: Optional[float], cancelled: Callable[[], bool]
+) -> Optional[Run]:
+    """A search behind some commands; none where it has not ended in time."""
     pipe = subprocess.PIPE
     try:
-        child = subprocess.Popen(words, stdin=pipe, stdout=pipe, stderr=pipe, start_new_session=True)
+        child = subprocess.Popen([rewind, *words, "--after", "-"], stdin=pipe, stdout=pipe, stderr=pipe, start_new_session=True)
     except (OSError, ValueError) as fault:
         raise ProcessError(f"{rewind} cannot be started: {fault}") from None
     try:
-        return answered(rewind, child, "".join(line + "\n" for line in commands).encode(), seconds, cancelled)
+        return ended(rewind, child, "".join(line + "\n" for line in commands).encode(), seconds, cancelled)
     finally:
         if child.poll() is None:
             child.kill()
             child.communicate()
 
 
-def answered(
+def ended(
     rewind: str, child: "subprocess.Popen[bytes]", script: bytes, seconds: Optional[float], cancelled: Callable[[], bool]
-) -> Searched:
-    """What a search tells, when it ends in time."""
+) -> Optional[Run]:
+    """What a search has written, when it ends in time."""
     until = time.monotonic() + seconds if seconds is not None else None
     given: Optional[bytes] = script
     while True:
@@ -81,21 +106,34 @@ def answered(
             if cancelled():
                 raise Cancelled("the search was not waited for") from None
             if until is not None and time.monotonic() > until:
-                return Searched(Answer.NOT_FINISHED, f"not finished within {seconds:g} seconds")
+                return None
     sentence = said.decode("utf-8", "replace").strip()
     if child.returncode not in {it.value for it in Answer}:
         raise ProcessError(f"{rewind} has ended: {meaning_of_exit(child.returncode, sentence)}")
-    return Searched(Answer(child.returncode), sentence, tuple(out.decode("utf-8", "replace").splitlines()))
+    return Run(child.returncode, out.decode("utf-8", "replace").splitlines(), sentence)
 
 
 def search_from(rewind: str, session: Session, states: int, cancelled: Callable[[], bool] = never) -> Searched:
     """Searches from where a session stands, which keeps the schedule that was found."""
-    if session.source is None:
-        raise RewindError("the source of this session is not known")
-    with session.source.copied() as copy:
+    with copied(session) as copy:
         found = search(rewind, copy, steps_of(session), states, cancelled=cancelled)
     session.schedule = found.commands
     return found
+
+
+def blame_from(rewind: str, session: Session, states: int, cancelled: Callable[[], bool] = never) -> Blamed:
+    """Which step of a session's log is to blame for where it stands."""
+    with copied(session) as copy:
+        run = ran(rewind, ["--blame", copy, "--states", str(states)], steps_of(session), None, cancelled)
+    assert run is not None
+    return Blamed(run.out[0] if run.out else "", run.sentence)
+
+
+def copied(session: Session) -> AbstractContextManager[str]:
+    """The path of a copy of a session's source, which is there for a while."""
+    if session.source is None:
+        raise RewindError("the source of this session is not known")
+    return session.source.copied()
 
 
 def steps_of(session: Session) -> list[str]:

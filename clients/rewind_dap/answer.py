@@ -5,7 +5,7 @@ import io
 
 from rewind_client.finding import explained
 from rewind_client.program import Program
-from rewind_client.searching import Searched, search_from
+from rewind_client.searching import Blamed, Searched, blame_from, search_from
 from rewind_client.session import Session
 from rewind_client.stories import Stories
 from rewind_shell.desk import Stops
@@ -52,6 +52,9 @@ class Answer:
 
     def searched(self, states: int) -> Searched:
         return search_from(self.debuggee.launch.rewind, self.session, states)
+
+    def blamed(self, states: int) -> Blamed:
+        return blame_from(self.debuggee.launch.rewind, self.session, states)
 
     def tell_chosen(self) -> None:
         found = self.session.goroutine(self.chosen)

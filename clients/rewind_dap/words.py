@@ -14,6 +14,7 @@ from rewind_client.searching import ahead
 from rewind_shell.looking import Looking
 from rewind_shell.moving import never_there, no_variable
 from rewind_shell.saving import read_script, write_script
+from rewind_shell.searching import Searching
 from rewind_shell.words import HINTS, too_many
 
 from .answer import Answer
@@ -128,7 +129,7 @@ class Words:
 
     def looking(self, desk: Answer) -> dict[str, Callable[[list[str]], None]]:
         own = {"preview": lambda words: preview(desk, words), "save": lambda words: save(desk, words)}
-        return {**Looking(desk).handlers(), **own}
+        return {**Looking(desk).handlers(), **Searching(desk).handlers(), **own}
 
 
 def preview(desk: Answer, words: list[str]) -> None:

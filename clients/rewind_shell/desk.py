@@ -4,7 +4,7 @@ from __future__ import annotations
 from typing import AbstractSet, Protocol
 
 from rewind_client.program import Program
-from rewind_client.searching import Searched
+from rewind_client.searching import Blamed, Searched
 from rewind_client.session import Session
 
 from .terminal import Screen
@@ -62,6 +62,9 @@ class Desk(Protocol):
 
     def searched(self, states: int) -> Searched:
         """What comes of a search of all schedules from here."""
+
+    def blamed(self, states: int) -> Blamed:
+        """Which step of the log is to blame for where the session stands."""
 
     def tell_chosen(self) -> None:
         """Says where the chosen goroutine stands."""

@@ -11,7 +11,6 @@ from rewind_client.follower import NOTED
 from rewind_client.names import is_channel, is_goroutine, is_step, step_number, step_of, step_owner
 from rewind_client.notes import Note
 from rewind_client.replies import Goroutine
-from rewind_client.searching import STATES, ahead, repeated
 from rewind_client.sentences import Sentences
 from rewind_client.stories import Stories, relation
 
@@ -22,8 +21,6 @@ AROUND = 5
 SHOWN_STEPS = 40
 MAX_ROWS = 1000
 SHOWN_TEXT = 60
-SHOWN_COMMANDS = 30
-MOST_STATES = 1_000_000_000
 # To follow so many steps takes longer than a person waits without a sign.
 LONG = 10_000
 
@@ -47,7 +44,6 @@ class Looking:
             "print": self.print,
             "history": self.history,
             "direct": self.direct,
-            "search": self.search,
         }
 
     # Help.
@@ -143,22 +139,6 @@ class Looking:
         if number > NOTED:
             told = "(lines, channels and values are known of the last %d of %d steps: what came of the others is not told here)"
             self.screen.say(told % (NOTED, number), "note")
-
-    def search(self, words: list[str]) -> None:
-        """Searches all schedules from here, and tells the first commands to a bad end."""
-        wanted = words[0] if words else str(STATES)
-        if not (wanted.isascii() and wanted.isdecimal() and 0 < int(wanted) <= MOST_STATES):
-            self.screen.say(HINTS["search"], "error")
-            return
-        found = self.shell.searched(int(wanted))
-        self.screen.say(found.sentence)
-        if not found.commands:
-            return
-        commands = repeated(ahead(self.shell.session))
-        if commands:
-            shown = "; ".join(commands[:SHOWN_COMMANDS]) + ("; .." if len(commands) > SHOWN_COMMANDS else "")
-            self.screen.say(f"    {shown}")
-        self.screen.say("'follow' takes these steps" if commands else "the program stands there")
 
     # Frames and the source.
 

@@ -18,13 +18,14 @@ from rewind_client.printed import change
 from rewind_client.program import Program, read_program
 from rewind_client.refusals import explain_refusal
 from rewind_client.replies import Entry, State
-from rewind_client.searching import Searched, ahead, search_from
+from rewind_client.searching import Blamed, Searched, ahead, blame_from, search_from
 from rewind_client.stories import Stories
 
 from .interrupts import Interrupts
 from .looking import Looking
 from .moving import Moving
 from .saving import Script, read_script
+from .searching import Searching
 from .terminal import Screen
 from .words import BY_NAME, CORE, FOR_WORKERS, hint, meant_words, too_many
 
@@ -53,11 +54,11 @@ class Shell:
         self.is_lost = False
         self.begin()
         self.breakpoints: Breakpoints = Breakpoints(self.session)
-        looking, moving = Looking(self), Moving(self)
+        looking, searching, moving = Looking(self), Searching(self), Moving(self)
         own: dict[str, Callable[[list[str]], None]] = {
             "save": self.save, "load": self.load, "restart": self.restart, "follow": self.follow
         }
-        self.handlers = {**looking.handlers(), **moving.handlers(), **own}
+        self.handlers = {**looking.handlers(), **searching.handlers(), **moving.handlers(), **own}
 
     def begin(self) -> None:
         """Begins the program, with nothing taken."""
@@ -246,6 +247,10 @@ class Shell:
     def searched(self, states: int) -> Searched:
         """What comes of a search of all schedules from here."""
         return search_from(self.rewind, self.session, states, self.interrupts.pending)
+
+    def blamed(self, states: int) -> Blamed:
+        """Which step of the log is to blame for where the session stands."""
+        return blame_from(self.rewind, self.session, states, self.interrupts.pending)
 
     def follow(self, _words: list[str]) -> None:
         """Takes the steps of the schedule that a search found."""

@@ -61,6 +61,14 @@ LOOKING = [
         "So many states at most, or 1000000. Ctrl-C ends it. 'follow' takes the steps that were found.",
         1,
     ),
+    Word(
+        "blame",
+        "",
+        "blame [STATES]",
+        "the first step of the log after which no schedule ends well any more",
+        "All schedules are searched, of so many states at most, or 1000000. Ctrl-C ends it.",
+        1,
+    ),
 ]
 MOVING = [
     Word("step", "s", "step [N]", "N steps of the chosen goroutine", "'step G' and 'step G CASE' go to Rewind unchanged."),
@@ -153,6 +161,7 @@ HINTS = {
     "break": "break wants a line or a function: break 12, break main",
     "clear": "clear wants the line of a breakpoint: clear 12",
     "search": "search may have the number of states to search, from 1 to 1000000000: search 20000",
+    "blame": "blame may have the number of states to search, from 1 to 1000000000: blame 20000",
     "free": "free wants a number from 0 to 1000000: free 100",
     "show": "show wants a goroutine: show g0",
     "chan": "chan wants a channel: chan g0/c1; 'channels' lists them",

@@ -3,6 +3,7 @@ from __future__ import annotations
 
 import json
 import os
+import re
 import subprocess
 import sys
 from collections.abc import Callable, Sequence
@@ -126,6 +127,14 @@ def test_words_that_do_not_fit(talk: Run) -> None:
     assert told.count("no schedule is found yet") == 2
     assert told.count("search may have the number of states") == 2 and "is not taken" in told
     assert "no schedule ends badly" in told
+
+
+def test_blame_in_the_shell(talk: Run) -> None:
+    told = talk(example("lock_order"), "blame", "search", "follow", "blame", "back g0.2#2", "blame", "blame x").stdout
+    assert told.count("no step is to blame") == 2 and "before this step some schedule ends well, and after it none does" in told
+    assert re.search(r"^    g0\.2#2 +take +4: func lock", told, re.MULTILINE), told
+    assert re.search(r"'back g0\.2#2' takes it back, with \d+ that depend on it", told)
+    assert "blame may have the number of states" in told
 
 
 def test_a_hunt_searches_first(hunt: Run, tmp_path: Path) -> None:

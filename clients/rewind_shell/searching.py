@@ -1,0 +1,63 @@
+"""The words that search all schedules from where the session stands."""
+from __future__ import annotations
+
+from collections.abc import Callable
+from typing import Optional
+
+from rewind_client.searching import STATES, ahead, repeated
+from rewind_client.stories import Stories
+
+from .desk import Desk
+from .looking import row
+from .words import HINTS
+
+SHOWN_COMMANDS = 30
+MOST_STATES = 1_000_000_000
+
+
+class Searching:
+    """Answers that are certain, since they are those of a search of all schedules."""
+
+    def __init__(self, shell: Desk) -> None:
+        self.shell = shell
+        self.screen = shell.screen
+
+    def handlers(self) -> dict[str, Callable[[list[str]], None]]:
+        return {"search": self.search, "blame": self.blame}
+
+    def states(self, name: str, words: list[str]) -> Optional[int]:
+        """How many states are searched at most; none where the word is no such number, with a sentence."""
+        wanted = words[0] if words else str(STATES)
+        if wanted.isascii() and wanted.isdecimal() and 0 < int(wanted) <= MOST_STATES:
+            return int(wanted)
+        self.screen.say(HINTS[name], "error")
+        return None
+
+    def search(self, words: list[str]) -> None:
+        """Searches all schedules from here, and tells the first commands to a bad end."""
+        states = self.states("search", words)
+        if states is None:
+            return
+        found = self.shell.searched(states)
+        self.screen.say(found.sentence)
+        if not found.commands:
+            return
+        commands = repeated(ahead(self.shell.session))
+        if commands:
+            shown = "; ".join(commands[:SHOWN_COMMANDS]) + ("; .." if len(commands) > SHOWN_COMMANDS else "")
+            self.screen.say(f"    {shown}")
+        self.screen.say("'follow' takes these steps" if commands else "the program stands there")
+
+    def blame(self, words: list[str]) -> None:
+        """The step after which no schedule ends well any more."""
+        states = self.states("blame", words)
+        if states is None:
+            return
+        found = self.shell.blamed(states)
+        self.screen.say(found.sentence)
+        if found.step:
+            note = self.shell.session.follow().notes.get(found.step)
+            told = row(Stories(self.shell.session), self.shell.program.line(note.line), note) if note else found.step
+            self.screen.row(f"    {told}")
+            number = len(self.shell.session.preview(found.step))
+            self.screen.say(f"'back {found.step}' takes it back, {'alone' if number == 1 else f'with {number - 1} that depend on it'}")
