@@ -1,5 +1,6 @@
 /* The part of an operating system that the program asks for, in a page: the words of its command line, one file (`program.go`), the
- * three standard streams, and an end. The page gives `host.read`, `host.write` and `host.exit`; descriptor 3 is the file. */
+ * three standard streams, and an end. The page gives `host.read`, `host.write` and `host.exit`. Descriptor 3 is the file. Descriptor 4
+ * gives the words, each with a nul behind it; of more than fit, the last ones are left out. */
 typedef unsigned long size;
 typedef long count;
 
@@ -7,9 +8,10 @@ __attribute__((import_module("host"), import_name("read"))) count host_read(int 
 __attribute__((import_module("host"), import_name("write"))) count host_write(int descriptor, const void *from, size most);
 __attribute__((import_module("host"), import_name("exit"), noreturn)) void host_exit(int status);
 
-enum { NO_SUCH_FILE = 2, INPUT_OUTPUT = 5, OUT_OF_RANGE = 34, THE_FILE = 3 };
-static const char *const command_line[] = {"rewind", "program.go"};
-enum { WORDS = sizeof command_line / sizeof *command_line };
+enum { NO_SUCH_FILE = 2, INPUT_OUTPUT = 5, OUT_OF_RANGE = 34, THE_FILE = 3, THE_WORDS = 4, MOST_BYTES = 1024 };
+static const char file_name[] = "program.go";
+static char command_line[MOST_BYTES];
+static size bytes_of_words;
 static int last_error;
 
 static count copy_text(const char *text, unsigned char *to, size room) {
@@ -27,15 +29,38 @@ static count answered(count result) {
   return result < 0 ? -1 : result;
 }
 
-size rattle_arg_count(void) { return WORDS; }
-count rattle_arg(size index, unsigned char *to, size room) { return index < WORDS ? copy_text(command_line[index], to, room) : -1; }
+/* Reads the words of the command line, where they are not read yet. */
+static void read_words(void) {
+  while (bytes_of_words < MOST_BYTES) {
+    count more = host_read(THE_WORDS, command_line + bytes_of_words, MOST_BYTES - bytes_of_words);
+    if (more <= 0) return;
+    bytes_of_words += (size)more;
+  }
+}
+
+size rattle_arg_count(void) {
+  size words = 0;
+  read_words();
+  for (size at = 0; at < bytes_of_words; at++) words += !command_line[at];
+  return words;
+}
+
+count rattle_arg(size index, unsigned char *to, size room) {
+  const char *word = command_line;
+  if (index >= rattle_arg_count()) return -1;
+  while (index--) {
+    while (*word++) {
+    }
+  }
+  return copy_text(word, to, room);
+}
 count rattle_env(const unsigned char *name, unsigned char *to, size room) { return -1; }
 count rattle_env_at(size index, unsigned char *to, size room) { return -1; }
 int rattle_errno(void) { return last_error; }
 void rattle_set_errno(int error) { last_error = error; }
 
 int open(const char *path, int flags, ...) {
-  const char *name = command_line[1];
+  const char *name = file_name;
   while (*name && *path == *name) path++, name++;
   if (!*name && !*path) return THE_FILE;
   last_error = NO_SUCH_FILE;

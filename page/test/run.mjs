@@ -12,6 +12,7 @@ import { testOf } from "./parts.mjs";
 import { sessions } from "./sessions.mjs";
 import { firstStory, stories } from "./story.mjs";
 import { access } from "./access.mjs";
+import { searches } from "./searching.mjs";
 import { lessons } from "./lesson.mjs";
 import { roomAndRank } from "./room.mjs";
 import { saidWords } from "./words.mjs";
@@ -57,6 +58,7 @@ const ALL = [
   { name: "for everybody", part: access },
   { name: "for a lesson", part: lessons },
   { name: "real Go", part: (/** @type {TestContext} */ t, /** @type {TestBrowser} */ browser) => realGo(t, browser, PAGE) },
+  { name: "all schedules", part: searches },
   { name: "drawings", part: drawings },
   { name: "long logs", part: speed },
   { name: "a monkey", part: (/** @type {TestContext} */ t, /** @type {TestBrowser} */ browser) => monkey(t, browser, given(25, 1)) },

@@ -8,6 +8,7 @@ import { MOST_STEPS } from "./page.js";
 import { runAlone, runToLine, stepOver } from "./moves.js";
 import { savePicture } from "../picture/saving.js";
 import { search } from "./asking.js";
+import { follow, searchAll } from "./searching.js";
 import { showCompared } from "../panes/compare.js";
 import { nextTask, openTask } from "../lessons/tasks.js";
 import { ownText } from "./keeping.js";
@@ -161,6 +162,8 @@ const ACTIONS = {
   leave: present,
   now: (page) => page.past.back(),
   "bring-back": bringBack,
+  "search-all": searchAll,
+  follow,
   compare: showCompared,
 };
 

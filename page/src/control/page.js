@@ -46,6 +46,8 @@ export class Page {
     this.stamp = 0; // of the state that is shown
     /** @type {import("../waiting/standing.js").Standing | null} */
     this.standing = null;
+    /** @type {import("./searching.js").Searched | null} */
+    this.searched = null;
     this.pointing = new Pointing(this);
     this.past = new Past(this);
     this.annotating = new Annotating(this);
@@ -284,7 +286,7 @@ export class Page {
     const stamp = ++this.stamp;
     let isShown = false;
     this.past.leave();
-    this.standing = null;
+    this.standing = this.searched = null;
     try {
       const { missing } = await session.look();
       if (stamp !== this.stamp) return true;

@@ -6,6 +6,8 @@
 import { QUESTIONS, decoder, encoder } from "./protocol.js";
 
 const SOURCE = 3; // the descriptor of the source file; 0, 1 and 2 are the standard streams
+const WORDS = 4; // that of the words of the command line, each with a nul behind it
+const DEBUG = ["rewind", "program.go"];
 const ERRORS = 2;
 
 // What the program's `_exit` throws: the run is over, with this status.
@@ -22,6 +24,9 @@ function statusOf(thrown) {
   if (thrown instanceof Exit) return thrown.status;
   throw thrown;
 }
+
+/** @param {number} descriptor */
+const isGiven = (descriptor) => descriptor === SOURCE || descriptor === WORDS;
 
 export const canSuspend = () => "Suspending" in WebAssembly && "promising" in WebAssembly;
 
@@ -45,9 +50,13 @@ function joined(pieces) {
 
 // The bytes that go into the program and come out of it: what one run reads and writes.
 class Streams {
-  /** @param {Uint8Array} source */
-  constructor(source) {
+  /**
+   * @param {Uint8Array} source
+   * @param {string[]} words of the command line
+   */
+  constructor(source, words = DEBUG) {
     this.source = source;
+    this.words = encoder.encode(words.map((word) => `${word}\0`).join(""));
     /** @type {Uint8Array[]} */
     this.input = [];
     /** @type {Uint8Array[]} */
@@ -70,13 +79,16 @@ class Streams {
     return count;
   }
 
+  // Reads of what is no standard stream.
   /**
+   * @param {number} descriptor
    * @param {number | bigint} to
    * @param {number | bigint} most
    */
-  readSource(to, most) {
-    const count = this.move(this.source, to, most);
-    this.source = this.source.subarray(count);
+  readGiven(descriptor, to, most) {
+    const given = descriptor === SOURCE ? "source" : "words";
+    const count = this.move(this[given], to, most);
+    this[given] = this[given].subarray(count);
     return asWide(count, most);
   }
 
@@ -176,7 +188,7 @@ class WaitingRun {
    * @param {number | bigint} most
    */
   async read(descriptor, to, most) {
-    if (descriptor === SOURCE) return this.streams.readSource(to, most);
+    if (isGiven(descriptor)) return this.streams.readGiven(descriptor, to, most);
     if (!this.streams.input.length && !this.isClosed) {
       const woken = new Promise((wake) => (this.wake = /** @type {() => void} */ (wake)));
       this.settle();
@@ -232,7 +244,7 @@ class RepeatedRun {
     let before = bytes.length ? Infinity : 0;
     let waits = false;
     const read = (/** @type {number} */ descriptor, /** @type {number | bigint} */ to, /** @type {number | bigint} */ most) => {
-      if (descriptor === SOURCE) return streams.readSource(to, most);
+      if (isGiven(descriptor)) return streams.readGiven(descriptor, to, most);
       if (!streams.input.length && !pieces.length) waits = true;
       if (waits) return asWide(0, most);
       if (!streams.input.length) streams.input.push(/** @type {Uint8Array} */ (pieces.shift()));
@@ -269,6 +281,34 @@ class RepeatedRun {
     const lines = decoder.decode(bytes).split("\n");
     const changing = lines.filter((line) => line.trim() && !QUESTIONS.has(line.trim().split(/[ \t]/)[0]));
     if (changing.length) this.kept.push(encoder.encode(changing.join("\n") + "\n"));
+  }
+}
+
+// Runs the program from its start to its end, over all that it may read: the words of its command line, a source, and its input.
+/**
+ * @param {WebAssembly.Module} program
+ * @param {string[]} words
+ * @param {Uint8Array} source
+ * @param {Uint8Array} input
+ */
+export async function wholeRun(program, words, source, input) {
+  const streams = new Streams(source, words);
+  if (input.length) streams.input.push(input);
+  const read = (/** @type {number} */ descriptor, /** @type {number | bigint} */ to, /** @type {number | bigint} */ most) => {
+    if (isGiven(descriptor)) return streams.readGiven(descriptor, to, most);
+    return streams.input.length ? streams.readInput(to, most) : asWide(0, most);
+  };
+  const main = await streams.instance(program, read);
+  const status = endOf(main);
+  return { status, output: decoder.decode(streams.takeOutput()), errors: streams.errors };
+}
+
+/** @param {() => number} main */
+function endOf(main) {
+  try {
+    return main();
+  } catch (thrown) {
+    return statusOf(thrown);
   }
 }
 

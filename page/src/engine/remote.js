@@ -23,6 +23,7 @@ export class RemoteSession {
   constructor(machine) {
     /** @type {number | null} */
     this.status = null;
+    this.machine = machine;
     this.errors = "";
     this.fault = "";
     this.last = 0;
@@ -42,6 +43,18 @@ export class RemoteSession {
     const session = new RemoteSession(machine);
     await session.send({ program: machine.program, source: encoder.encode(source), suspends: machine.suspends }, 0);
     return session;
+  }
+
+  // Runs the program once, to its end, with words of a command line; `close` ends it before.
+  /**
+   * @param {string[]} words
+   * @param {string} source
+   * @param {string} input
+   * @returns {Promise<{status: number, output: string, errors: string}>}
+   */
+  async whole(words, source, input) {
+    const given = { source: encoder.encode(source), input: encoder.encode(input), words };
+    return (await this.send({ program: this.machine.program, ...given }, 1))[0];
   }
 
   /** @param {any} data */

@@ -1,6 +1,7 @@
-// A worker that holds one session of the program: it opens it, and answers commands in the shape that is asked for.
+// A worker that holds one session of the program: it opens it, and answers commands in the shape that is asked for. Or it runs the
+// program once, with other words.
 
-import { Session } from "./engine.js";
+import { Session, wholeRun } from "./engine.js";
 import { decoder, encoder } from "./protocol.js";
 import { shaped } from "./shapes.js";
 
@@ -21,7 +22,8 @@ async function answer({ commands, shape }) {
 self.addEventListener("message", async ({ data }) => {
   const reply = { id: data.id, answers: /** @type {any[]} */ ([]), fault: "" };
   try {
-    if (data.program) await open(data);
+    if (data.words) reply.answers = [await wholeRun(data.program, data.words, data.source, data.input)];
+    else if (data.program) await open(data);
     else reply.answers = await answer(data);
   } catch (fault) {
     reply.fault = String(fault);

@@ -4,7 +4,7 @@ import { field, find, inSteps, make } from "../element.js";
 
 /** @typedef {import("../control/page.js").Page} Page */
 
-const BUTTONS = ["stop", "bring-back", "now", "show-line", "back", "show-why", "run-on", "again"];
+const BUTTONS = ["stop", "bring-back", "now", "show-line", "follow", "back", "show-why", "run-on", "again"];
 const LONG = 120; // letters: a longer sentence is written smaller
 
 // What the last command came to, and how far a long run is.
@@ -31,19 +31,33 @@ export const status = {
     /** @type {HTMLProgressElement} */ (find("progress")).value = count ? taken / count : 0;
     find("taken").textContent = count ? `${taken.toLocaleString("en")} of at most ${inSteps(count)}` : "";
   },
+  // A search goes on, of which nobody can tell how far it is.
+  /** @param {number} seconds */
+  searching(seconds) {
+    status.isRunning = true;
+    find("stop").hidden = find("run-shown").hidden = false;
+    find("progress").removeAttribute("value");
+    find("taken").textContent = `all schedules are searched: ${seconds.toFixed(0)} s`;
+  },
 };
+
+// What a search has found, as long as it is about what is seen.
+/** @param {Page} page */
+const searchedBy = ({ searched, pointing, past }) => (searched && searched.pinned === pointing.pinned && !past.isOn ? searched : null);
 
 // Which button there is. The picture of a log without steps has buttons of its own.
 /**
  * @param {Page} page
  * @param {{tone: string} | null} state
  */
-function buttonFor({ session, past, pointing, refusedLine }, state) {
+function buttonFor(page, state) {
+  const { session, past, pointing, refusedLine } = page;
   if (status.isRunning) return "stop";
   if (session?.gone) return "bring-back";
   if (session && past.isOn) return "now";
   if (refusedLine && status.tone === "bad") return "show-line";
   if (!session) return "";
+  if (searchedBy(page)?.commands.length) return "follow";
   if (pointing.pinned && pointing.about) return "back";
   if (state?.tone === "stuck") return "show-why";
   if (!session.log.length) return "";
@@ -88,6 +102,7 @@ function sentenceOf(page, short, isToldOff) {
   if (status.isRunning) return [];
   if (isToldOff) return again("bad");
   if (page.past.isOn) return [make("span", { id: "then-text" }, pastText(page))];
+  if (searchedBy(page)) return led(said);
   return (short && led(short)) || chosenText(page) || again(status.tone);
 }
 
@@ -105,10 +120,11 @@ export function showMatter(page) {
   const state = session && !past.isOn ? words.state(session, standing, note) : null;
   const shown = buttonFor(page, state);
   for (const id of BUTTONS) find(id).hidden = id !== shown;
+  if (shown === "follow") find("follow").textContent = `Take ${page.searched?.commands.length === 1 ? "it" : `these ${page.searched?.commands.length}`}`;
   if (shown === "back" && pointing.about) find("back").textContent = takeBackText(pointing.about.consequences + 1);
   const isToldOff = status.tone === "bad" || Boolean(session?.gone);
   showSentence(sentenceOf(page, session && state ? words.headline(session, standing, note) : "", isToldOff));
-  find("matter").className = status.isRunning ? "" : isToldOff ? "stuck" : past.isOn ? "past" : state?.tone || "";
+  find("matter").className = status.isRunning ? "" : isToldOff ? "stuck" : past.isOn ? "past" : searchedBy(page)?.tone ?? state?.tone ?? "";
   showWhy(page, state);
 }
 
