@@ -4,11 +4,13 @@
 import { showBreaks } from "./breaks.js";
 import { isWait } from "../session/edges.js";
 import { lost } from "./losses.js";
+import { Unanswered } from "../engine/remote.js";
 import { parseGoroutine } from "../engine/protocol.js";
 import { placed } from "../session/scene.js";
 
 const MOST = 2000; // steps of one move
 const LONGEST_RUN = 1000000;
+const NO_GOROUTINE = "N2"; // the code of a question about a goroutine that is not there
 
 /** @typedef {import("./page.js").Page} Page */
 
@@ -20,6 +22,17 @@ const LONGEST_RUN = 1000000;
 async function standing(session, name) {
   const [reply] = await session.mirror.answer((remote) => remote.questions([`show ${name}`]));
   return placed(parseGoroutine(reply), session.statements);
+}
+
+// Tells what went wrong with a move. The chosen goroutine may have been taken back meanwhile.
+/**
+ * @param {Page} page
+ * @param {import("../session/session.js").Session} session
+ * @param {unknown} fault
+ */
+function missed(page, session, fault) {
+  if (fault instanceof Unanswered && fault.code === NO_GOROUTINE) page.say(`${page.chosen} is not started any more.`, "bad");
+  else lost(page, session, fault);
 }
 
 // Steps a goroutine until `isThere` holds of where it stands, or it waits, is done, or the program is over.
@@ -37,7 +50,7 @@ async function stepUntil(page, isThere) {
       page.say(end);
       page.showPlace();
     } catch (fault) {
-      lost(page, session, fault);
+      missed(page, session, fault);
     }
   });
   page.chosen = chosen;
@@ -74,10 +87,14 @@ export async function stepOver(page) {
   const { session, chosen } = page;
   if (!session || page.hindrance) return page.say(page.hindrance, "bad");
   return page.doing(async () => {
-    const start = await standing(session, chosen);
-    if (start.state === "waiting") return helpOn(page, session);
-    const deep = start.frames.length;
-    return stepUntil(page, ({ frames, statement }) => frames.length < deep || (frames.length === deep && statement !== start.statement));
+    try {
+      const start = await standing(session, chosen);
+      if (start.state === "waiting") return await helpOn(page, session);
+      const deep = start.frames.length;
+      await stepUntil(page, ({ frames, statement }) => frames.length < deep || (frames.length === deep && statement !== start.statement));
+    } catch (fault) {
+      missed(page, session, fault);
+    }
   });
 }
 

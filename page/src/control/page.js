@@ -374,9 +374,13 @@ export class Page {
   async stepClause(number) {
     const { session } = this;
     if (!session || this.hindrance) return this.say(this.hindrance, "bad");
-    const ready = session.scene.clauses.get(this.chosen) || (await session.mirror.readyClauses(session.scene.goroutines)).get(this.chosen) || [];
-    if (!ready.some((it) => it.number === number)) return this.say(`${this.chosen} has no ready case ${number}.`, "bad");
-    return this.step(this.chosen, number);
+    try {
+      const ready = session.scene.clauses.get(this.chosen) || (await session.mirror.readyClauses(session.scene.goroutines)).get(this.chosen) || [];
+      if (!ready.some((it) => it.number === number)) return this.say(`${this.chosen} has no ready case ${number}.`, "bad");
+      return await this.step(this.chosen, number);
+    } catch (fault) {
+      lost(this, session, fault);
+    }
   }
 
   // What is kept of the work, and shared: the text, the commands of the session where it is of that text, breakpoints and the story.
