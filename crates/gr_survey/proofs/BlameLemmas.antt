@@ -1,19 +1,17 @@
 -- The step to blame, by its name.
-use Rattle.std.proofs.Common.{◌≡◌, ◌+◌, ◌<◌, ℕ, zero, suc, List, [], ◌∷◌, map, length, slice_get, Option, Some, None, refl, sym, ◌∙◌, ap, subst}
+use Rattle.std.proofs.Common.{◌≡◌, ◌<◌, ℕ, zero, suc, List, [], ◌∷◌, map, length, slice_get, Some, refl, sym, ◌∙◌, ap, subst}
 use Rattle.gr_program.specs.Programs.{Program}
 use Rattle.gr_step.specs.Record.{Record}
 use Rattle.gr_step.specs.Stores.{contents_at}
 use Rattle.gr_rollback.proofs.KeptLemmas.{ids_alike, kept_length}
 use Rattle.gr_rollback.specs.declared.machine.Machine.{Machine}
 use Rattle.gr_rollback.specs.Machines.{store_of, steps_of, Stands}
-use Rattle.gr_rollback.specs.Pasts.{Past, Timeline, events_in, ids_of}
+use Rattle.gr_rollback.specs.Pasts.{Timeline, events_in}
 use Rattle.gr_laws.specs.Reached.{Logged}
 use Rattle.gr_explore.specs.Blaming.{IsBlame}
 use Rattle.gr_explore.specs.declared.blaming.Blame.{Blame}
 use Rattle.gr_explore.specs.declared.blaming.Blame.TheVariants as blames
-use Rattle.gr_explore.specs.declared.blaming.Span.{Span}
 use Rattle.gr_survey.specs.declared.blaming.Blamed.{Blamed}
-use Rattle.gr_survey.specs.declared.blaming.Blamed.TheVariants.{Nobody, Beginning, Step, Between}
 use Rattle.gr_survey.specs.Blames.{IsNamed, Blames}
 
 mapped_at : {A B : Type 0} (f : A → B) (xs : List A) (i : ℕ) (x : A) → slice_get xs i ≡ Some x → slice_get (map f xs) i ≡ Some (f x)

@@ -1,5 +1,5 @@
 -- How a run ends badly where a machine stands.
-use Rattle.std.proofs.Common.{◌≡◌, ◌⊎◌, inl, inr, sym, ◌∙◌}
+use Rattle.std.proofs.Common.{◌≡◌, inl, inr}
 use Rattle.gr_base.specs.declared.kinds.Fault.{Fault}
 use Rattle.gr_rules.specs.States.{Run, State, live, ended, faulted}
 use Rattle.gr_schedules.specs.Schedules.{IsBad}

@@ -5,9 +5,7 @@ use Rattle.gr_command.specs.Commands.{meaning}
 use Rattle.gr_command.specs.declared.command.Command.{Command}
 use Rattle.gr_command.specs.declared.command.Line.{Line}
 use Rattle.gr_command.specs.declared.command.Line.TheVariants as says
-use Rattle.gr_command.specs.declared.refusal.Refusal.{Refusal}
 use Rattle.gr_command.specs.declared.refusal.Refusal.TheVariants as refusals
-use Rattle.gr_command.specs.declared.reply.RunEnd.{RunEnd}
 use Rattle.gr_command.specs.declared.reply.RunEnd.TheVariants as ends
 use Rattle.gr_command.specs.Replies.{Said}
 use Rattle.gr_command.specs.Replies as replies

@@ -1,5 +1,5 @@
 -- What is surveyed: a program, from where the commands of a script leave it.
-use Rattle.std.specs.Prelude.{◌≡◌, ℕ, List, []}
+use Rattle.std.specs.Prelude.{ℕ, List, []}
 use Rattle.gr_program.specs.Programs.{Program}
 use Rattle.gr_search.specs.declared.search.Limits.{Limits}
 use Rattle.gr_rollback.specs.Machines.{Stands}

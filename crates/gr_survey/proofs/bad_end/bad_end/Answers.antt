@@ -2,7 +2,7 @@ use Rattle.std.proofs.Common.{sym, ◌∙◌, ap}
 use Rattle.gr_step.specs.Objects.{run_of}
 use Rattle.gr_step.specs.Stores.{contents_at}
 use Rattle.gr_explore.specs.Exploring.{state_seen}
-use Rattle.gr_survey.proofs.EndLemmas.{stuck_if_live, fine_if_ended}
+use Rattle.gr_survey.proofs.EndLemmas.{stuck_if_live}
 use Rattle.gr_survey.proofs.bad_end.bad_end.Goals as goal
 
 pub returns-in-Faulted : goal.returns-in-Faulted

@@ -1,4 +1,4 @@
-use Rattle.std.proofs.Common.{◌≡◌, ◌≤◌, ◌<◌, ◌+◌, [], true, ap, subst, ◌∙◌, length, rules, arith}
+use Rattle.std.proofs.Common.{◌≡◌, [], true, ap, subst, ◌∙◌, rules, arith}
 use Rattle.gr_program.specs.Views.{program_of}
 use Rattle.gr_command.specs.Commands.{meaning}
 use Rattle.gr_serve.specs.Lines.{lines_of}
