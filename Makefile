@@ -26,7 +26,7 @@ bin/rewind: FORCE
 	$(NEEDS_RT)
 	tools/build/prove.py rewind_cli $@ --help
 
-quick: bin/rewind-quick ## builds the program without proofs, as bin/rewind-quick (2 minutes)
+quick: bin/rewind-quick ## builds the program without proofs, as bin/rewind-quick (3 minutes)
 
 bin/rewind-quick: bin/quick/rewind.bc tools/build/quick_program.py
 	$(NEEDS_RT)
@@ -38,7 +38,7 @@ bin/quick/rewind.bc: $(SOURCES) crates.txt tools/build/quick_module.py tools/bui
 	$(NEEDS_RT)
 	tools/build/quick_module.py $@
 
-demo: bin/rewind-quick ## shows how to take back the step behind a deadlock (2 minutes with the quick build)
+demo: bin/rewind-quick ## shows how to take back the step behind a deadlock (3 minutes with the quick build)
 	@tools/demo.py bin/rewind-quick
 
 quick-page: page-needs page/out/rewind-quick.wasm ## the debugger in a web page of the quick build: bin/rewind-quick.html (2 minutes)
