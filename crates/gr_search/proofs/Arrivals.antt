@@ -1,6 +1,6 @@
 -- What a turn of the search keeps.
 use Rattle.std.proofs.Common.{◌≡◌, ◌⊎◌, ℕ, List, [], ◌∷◌, Some, None, drop, refl, sym, ◌∙◌, ap, subst, inl, inr}
-use Rattle.gr_search.specs.System.{System, Leads, Follows, Reaches, Expands, IsSafe, Laws}
+use Rattle.gr_search.specs.System.{System, Leads, Follows, Reaches, Expands, Closed, IsSafe, Laws}
 use Rattle.gr_search.specs.Going.{In, GoesHome, Pending, Going, Arriving, HasAll, tries}
 use Rattle.gr_search.specs.declared.search.Task.{Task}
 use Rattle.gr_search.specs.declared.search.Task.TheVariants.{Try, TakeBack}
@@ -105,8 +105,11 @@ module _ {State Event Key : Type 0} (Y : System State Event Key) where
         (λ e h. pending_each es base more u e l h) g
 
   -- nothing is left to be done
-  pub all_done : (V : Key → Type 0) (log : List Event) → Laws Y → Going Y V [] log → IsSafe Y
-  all_done V log laws g = safe Y laws V (record {
+  pub all_closed : (V : Key → Type 0) (log : List Event) → Going Y V [] log → Closed Y V
+  all_closed V log g = record {
     begins = g.begins;
     known = λ k h. expands_by k (λ r f t n w. elim w [ inl v ↦ v | inr v ↦ absurd v ]) (g.known k h);
-  })
+  }
+
+  pub all_done : (V : Key → Type 0) (log : List Event) → Laws Y → Going Y V [] log → IsSafe Y
+  all_done V log laws g = safe Y laws V (all_closed V log g)

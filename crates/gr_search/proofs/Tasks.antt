@@ -2,11 +2,11 @@
 use Rattle.std.proofs.Common.{◌≡◌, ℕ, ◌+◌, ◌-◌, Bool, true, false, List, [], ◌∷◌, ◌++◌, length, Option, Some, None, drop, sym, ◌∙◌, ap, subst, arith, length-drop}
 use Rattle.std.proofs.lemmas.List.{nil_from_length}
 use Rattle.std.specs.Option.{option_to_list}
-use Rattle.gr_search.specs.System.{System, Laws, IsSafe, Leads, Follows}
+use Rattle.gr_search.specs.System.{System, Laws, IsSafe, Closed, Leads, Follows}
 use Rattle.gr_search.specs.Going.{Going, Arriving, Known, Stepped}
 use Rattle.gr_search.specs.declared.search.Task.{Task}
 use Rattle.gr_search.specs.declared.search.Task.TheVariants.{Try, TakeBack}
-use Rattle.gr_search.proofs.Arrivals.{none_there, comes_to, all_done}
+use Rattle.gr_search.proofs.Arrivals.{none_there, comes_to, all_done, all_closed}
 use Rattle.gr_search.proofs.Turns.{possible, impossible, drop_steps}
 
 module _ {State Event Key : Type 0} (Y : System State Event Key) (V : Key → Type 0) (all ts : List (Task Event)) (log : List Event) (going : Going Y V all log) where
@@ -14,8 +14,8 @@ module _ {State Event Key : Type 0} (Y : System State Event Key) (V : Key → Ty
   first_is : (o : Option (Task Event)) (t : Option (Task Event)) → all ≡ option_to_list o ++ ts → o ≡ t → Going Y V (option_to_list t ++ ts) log
   first_is o t e h = subst (λ x. Going Y V x log) (e ∙ ap (λ x. option_to_list x ++ ts) h) going
 
-  pub no_task : (o : Option (Task Event)) → all ≡ option_to_list o ++ ts → o ≡ None → ts ≡ [] → Laws Y → IsSafe Y × (log ≡ [])
-  no_task o e h n laws = let g : Going Y V [] log = subst (λ x. Going Y V x log) n (first_is o None e h) in (all_done Y V log laws g, g.home)
+  pub no_task : (o : Option (Task Event)) → all ≡ option_to_list o ++ ts → o ≡ None → ts ≡ [] → Laws Y → IsSafe Y × Closed Y V × (log ≡ [])
+  no_task o e h n laws = let g : Going Y V [] log = subst (λ x. Going Y V x log) n (first_is o None e h) in (all_done Y V log laws g, all_closed Y V log g, g.home)
 
   pub back_task : (o : Option (Task Event)) (task : Task Event) (count : ℕ) (new : List Event) → all ≡ option_to_list o ++ ts → o ≡ Some task → task ≡ TakeBack count → new ≡ drop count log → Going Y V ts new
   back_task o task count new e h b d =

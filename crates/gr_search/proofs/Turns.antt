@@ -1,11 +1,14 @@
 -- What steps and turns of the search keep.
-use Rattle.std.proofs.Common.{◌≡◌, ℕ, ◌+◌, Bool, true, false, List, ◌∷◌, Option, Some, None, drop, sym, ◌∙◌, ap, subst, arith}
+use Rattle.std.proofs.Common.{◌≡◌, ℕ, ◌+◌, Bool, true, false, nat_eq, List, ◌∷◌, length, Option, Some, None, drop, sym, ◌∙◌, ap, subst, arith}
+use Rattle.std.specs.Cmp.Lexicographic.{pointwise}
+use Rattle.std.specs.List.{list_any, IsDistinct}
 use Rattle.std.proofs.lemmas.List.{drop-drop}
 use Rattle.gr_search.specs.System.{System, Follows, goes}
-use Rattle.gr_search.specs.Going.{Stepped, Going, Turned}
+use Rattle.gr_search.specs.Going.{AreReached, Ended, Known, Stepped, Going, Turned}
+use Rattle.gr_search.specs.declared.search.Explored.TheVariants.{AllStates}
 use Rattle.gr_search.specs.declared.search.Task.{Task}
 use Rattle.gr_search.specs.declared.search.Turn.{Turn}
-use Rattle.gr_search.specs.declared.search.Turn.TheVariants.{GoOn}
+use Rattle.gr_search.specs.declared.search.Turn.TheVariants.{GoOn, Done}
 
 pub drop_one : {A : Type 0} (n : ℕ) (x : A) (xs : List A) → drop (n + 1) (x ∷ xs) ≡ drop n xs
 drop_one n x xs = let e : n + 1 ≡ 1 + n = omega arith in ap (λ k. drop k (x ∷ xs)) e ∙ sym (drop-drop n 1 (x ∷ xs))
@@ -29,3 +32,12 @@ drop_steps n e xs ys zs h g = sym (drop-drop 1 n xs) ∙ ap (drop 1) (h ∙ g)
 pub goes_on : {State Event Key : Type 0} (Y : System State Event Key) (turn : Turn) (V : Key → Type 0) (ts : List (Task Event)) (log : List Event) (s : State) → turn ≡ GoOn
     → Turned Y turn V ts log s → Going Y V ts log
 goes_on Y turn V ts log s h w = let P : Turn → Type 0 = λ t. Turned Y t V ts log s in subst P h w
+
+-- where nothing is left, the keys that were seen are closed
+pub all_seen : {State Event Matter : Type 0} (Y : System State Event Matter) (means : List ℕ → Matter → Type 0) (turn : Turn) (keys : List (List ℕ)) (count : ℕ) (ts : List (Task Event)) (log : List Event)
+    (s : State) → turn ≡ Done → Turned Y turn (Known means (λ k. list_any (pointwise nat_eq k) keys)) ts log s → AreReached Y means (λ k. list_any (pointwise nat_eq k) keys) → IsDistinct (pointwise nat_eq) keys
+    → count ≡ length keys → Ended Y means (AllStates count) log s
+all_seen Y means turn keys count ts log s h w reached distinct many =
+    let P : Turn → Type 0 = λ t. Turned Y t (Known means (λ k. list_any (pointwise nat_eq k) keys)) ts log s in
+    let done : Turned Y Done (Known means (λ k. list_any (pointwise nat_eq k) keys)) ts log s = subst P h w in
+    (done.0, record { keys = keys; distinct = distinct; reached = reached; closed = done.1; many = many }, done.2)

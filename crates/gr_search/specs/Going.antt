@@ -3,7 +3,7 @@ use Rattle.std.specs.Prelude.{length, ◌+◌, ◌<◌, ◌≤◌, ◌≡◌, �
 use Rattle.std.specs.Cmp.Lexicographic.{pointwise}
 use Rattle.std.specs.List.{list_any, IsDistinct}
 use Rattle.std.specs.HashSet.{HashSet, contains}
-use Rattle.gr_search.specs.System.{System, Leads, Reached, Follows, Reaches, Expands, IsSafe}
+use Rattle.gr_search.specs.System.{System, Leads, Reached, Follows, Reaches, Expands, IsSafe, Closed}
 use Rattle.gr_search.specs.declared.searched.Limit.{Limit}
 use Rattle.gr_search.specs.declared.searched.Limit.TheVariants.{Memory, Steps, States, Turns, Back}
 use Rattle.gr_search.specs.declared.search.Task.{Task}
@@ -11,6 +11,8 @@ use Rattle.gr_search.specs.declared.search.Task.TheVariants.{Try, TakeBack}
 use Rattle.gr_search.specs.declared.search.Answer.{Answer}
 use Rattle.gr_search.specs.declared.search.Answer.TheVariants.{Nothing, Limited}
 use Rattle.gr_search.specs.declared.search.Answer.TheVariants as answers
+use Rattle.gr_search.specs.declared.search.Explored.{Explored}
+use Rattle.gr_search.specs.declared.search.Explored.TheVariants.{BadState, AllStates}
 use Rattle.gr_search.specs.declared.search.Turn.{Turn}
 use Rattle.gr_search.specs.declared.search.Turn.TheVariants.{GoOn, Found, Done}
 
@@ -57,13 +59,7 @@ module _ {State Event Key : Type 0} (Y : System State Event Key) where
   abbrev pub Turned : Turn → (Key → Type 0) → List (Task Event) → List Event → State → Type 0
   Turned GoOn V ts log s = Going V ts log
   Turned Found V ts log s = bad s
-  Turned Done V ts log s = IsSafe Y × (log ≡ [])
-
-  -- how exploring ends
-  abbrev pub Ended : Turn → List Event → State → Type 0
-  Ended GoOn log s = ⊥
-  Ended Found log s = bad s
-  Ended Done log s = IsSafe Y × (log ≡ [])
+  Turned Done V ts log s = IsSafe Y × Closed Y V × (log ≡ [])
 
   -- an event was taken, or it is not possible
   abbrev pub Stepped : Bool → Event → (old new : State) → (before after : List Event) → Type 0
@@ -106,6 +102,19 @@ module _ {State Event Matter : Type 0} (Y : System State Event Matter) (means : 
     pub distinct : IsDistinct (pointwise nat_eq) keys
     pub reached : AreReached (λ k. list_any (pointwise nat_eq k) keys)
     pub more : most < length keys
+
+  -- so many keys of reached states, no two of them the same, are closed
+  pub record HasClosed (count : ℕ) : Type 0 where
+    pub keys : List (List ℕ)
+    pub distinct : IsDistinct (pointwise nat_eq) keys
+    pub reached : AreReached (λ k. list_any (pointwise nat_eq k) keys)
+    pub closed : Closed Y (Known means (λ k. list_any (pointwise nat_eq k) keys))
+    pub many : count ≡ length keys
+
+  -- how exploring ends
+  abbrev pub Ended : Explored → List Event → State → Type 0
+  Ended BadState log s = Y.bad s
+  Ended (AllStates count) log s = IsSafe Y × HasClosed count × (log ≡ [])
 
   -- a run of so many steps is possible
   pub record HasRun (steps : ℕ) : Type 0 where
@@ -179,4 +188,4 @@ abbrev pub IsHome : {E : Type 0} → Answer → List E → Type 0
 IsHome answers.Found log = Unit {0}
 IsHome (Limited Back) log = Unit {0}
 IsHome (Limited _) log = log ≡ []
-IsHome Nothing log = log ≡ []
+IsHome (Nothing states) log = log ≡ []

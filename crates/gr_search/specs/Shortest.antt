@@ -1,7 +1,7 @@
 -- How a search for a bad state of the fewest steps ends.
 use Rattle.std.specs.Prelude.{◌≡◌, ◌⊎◌, ◌+◌, ℕ, List, [], IfSome}
 use Rattle.gr_search.specs.System.{System, IsSafe}
-use Rattle.gr_search.specs.Going.{Met, IsHome}
+use Rattle.gr_search.specs.Going.{Met, HasClosed, IsHome}
 use Rattle.gr_search.specs.Bounds.{IsSafeWithin, IsFewest, HasBad, bounded, MeansWithin, OffersWithin}
 use Rattle.gr_search.specs.declared.searched.Limit.{Limit}
 use Rattle.gr_search.specs.declared.search.Answer.TheVariants as answers
@@ -24,6 +24,6 @@ module _ {State Event Matter : Type 0} (Y : System State Event Matter) (means : 
 
   -- how the search ends, with this log and in this state
   abbrev pub IsShortest : Shortest → List Event → State → Type 0
-  IsShortest Nothing log s = IsSafe Y × (log ≡ [])
+  IsShortest (Nothing count) log s = IsSafe Y × HasClosed Y means count × (log ≡ [])
   IsShortest Found log s = Y.bad s × IsFewest Y log
   IsShortest (Limited u) log s = IsUnfinished u × IsHome (answers.Limited u.limit) log

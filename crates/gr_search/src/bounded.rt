@@ -1,8 +1,8 @@
 //! A machine of which only the runs of at most so many steps are searched.
 
-ghost use Rattle.std.specs.Prelude.{◌≡◌, ◌≤◌, [], length};
+ghost use Rattle.std.specs.Prelude.{◌≡◌, ◌≤◌, [], length, ℕ};
 ghost use Rattle.gr_search.specs.System.{Leads};
-ghost use Rattle.gr_search.specs.Going.{IsHome, Met};
+ghost use Rattle.gr_search.specs.Going.{HasClosed, IsHome, Met};
 ghost use Rattle.gr_search.specs.Bounds.{IsSafeWithin, bounded as bounded_by, MeansWithin, OffersWithin};
 ghost use Rattle.gr_search.specs.declared.searched.Limit.{Limit as LimitMet};
 
@@ -108,12 +108,14 @@ pub fn search_within<M: Searched>(
     ensures fixed { M.fixed machine.new ≡ M.fixed machine.old }
     ensures home { IsHome result (M.log machine.new) }
     // no run from the start of at most so many steps, with any choices, reaches a bad state
-    ensures nothing { result ≡ Answer.Nothing → IsSafeWithin (M.system (M.fixed machine.old)) most }
+    ensures nothing { (states : ℕ) → result ≡ Answer.Nothing states → IsSafeWithin (M.system (M.fixed machine.old)) most }
     // the log is such a run that leads to a bad state
     ensures found { result ≡ Answer.Found → (M.system (M.fixed machine.old)).bad (M.state machine.new) }
     ensures leads { result ≡ Answer.Found → Leads (M.system (M.fixed machine.old)) (M.log machine.new) (M.state machine.new) }
     ensures within { result ≡ Answer.Found → length (M.log machine.new) ≤ most }
     // the same as for a search of all runs, where states with another number of steps left are others
+    ensures closed { (states : ℕ) → result ≡ Answer.Nothing states
+        → HasClosed (bounded_by most (M.system (M.fixed machine.old))) (MeansWithin (M.means (M.fixed machine.old))) states }
     ensures limited { (limit : LimitMet) → result ≡ Answer.Limited limit
         → Met (bounded_by most (M.system (M.fixed machine.old))) (MeansWithin (M.means (M.fixed machine.old)))
         (OffersWithin (M.offers (M.fixed machine.old))) (M.longest (M.fixed machine.old)) limits.now.states limits.now.turns limit }

@@ -3,7 +3,7 @@
 ghost use Rattle.std.specs.Prelude.{◌≡◌, ◌⊎◌, ◌+◌, IfOk, IfErr, OnOk, drop, true, false, Some, [], List, ℕ};
 ghost use Rattle.gr_search.specs.System.{Follows, IsSafe, Leads};
 ghost use Rattle.gr_search.specs.Going.{Going, Arriving, Turned, Known, RefusesBack, RefusesLook, AreReached, keys_of, tries};
-ghost use Rattle.gr_search.specs.Going.{Met, MetThere, MetByRun, Does, Ended, IsHome};
+ghost use Rattle.gr_search.specs.Going.{Met, MetThere, MetByRun, Does, Ended, HasClosed, IsHome};
 
 use crate::key::Key;
 use crate::searched::{Limit, Searched};
@@ -185,8 +185,8 @@ fn take_turn<M: Searched>(
 /// What a search came to.
 #[derive(Clone, Copy)]
 pub enum Answer {
-    /// No run from the start reaches a bad state.
-    Nothing,
+    /// No run from the start reaches a bad state. So many states were seen, and each of their events leads to one of them.
+    Nothing(usize),
     /// The machine stands in a bad state, and its log leads there.
     Found,
     /// A limit was met.
@@ -219,28 +219,37 @@ fn begin<M: Searched>(
     arrive(alloc, machine, seen, tasks, steps as u64, limits.states)
 }
 
+/// What exploring came to.
+#[derive(Clone, Copy)]
+enum Explored {
+    /// The machine stands in a bad state.
+    BadState,
+    /// Nothing is left, and so many states were seen.
+    AllStates(usize),
+}
+
 /// Explores until nothing is left, a bad state is found, or a limit is met.
-fn explore<M: Searched>(alloc: Global, machine: &mut M, limits: &Limits) -> Result<Turn, Limit>
+fn explore<M: Searched>(alloc: Global, machine: &mut M, limits: &Limits) -> Result<Explored, Limit>
     requires stands { M.stands machine.old }
     requires start { M.log machine.old ≡ [] }
     ensures stands { M.stands machine.new }
     ensures fixed { M.fixed machine.new ≡ M.fixed machine.old }
-    ensures ended { IfOk result (λ turn. Ended (M.system (M.fixed machine.old)) turn (M.log machine.new)
-        (M.state machine.new)) }
+    ensures ended { IfOk result (λ explored. Ended (M.system (M.fixed machine.old)) (M.means (M.fixed machine.old))
+        explored (M.log machine.new) (M.state machine.new)) }
     ensures met { IfErr result (Met (M.system (M.fixed machine.old)) (M.means (M.fixed machine.old))
         (M.offers (M.fixed machine.old)) (M.longest (M.fixed machine.old)) limits.now.states limits.now.turns) }
 {
     let mut seen = HashSet::new(alloc);
     let mut tasks = VecDeque::new(alloc);
     match begin(alloc, machine, &mut seen, &mut tasks, limits)? {
-        Turn::Found => return Ok(Turn::Found),
-        Turn::Done => return Ok(Turn::Done),
+        Turn::Found => return Ok(Explored::BadState),
+        Turn::Done => return Ok(Explored::AllStates(seen.len())),
         Turn::GoOn => {}
     }
     for _ in 0..limits.turns {
         match take_turn(alloc, machine, &mut seen, &mut tasks, limits)? {
-            Turn::Found => return Ok(Turn::Found),
-            Turn::Done => return Ok(Turn::Done),
+            Turn::Found => return Ok(Explored::BadState),
+            Turn::Done => return Ok(Explored::AllStates(seen.len())),
             Turn::GoOn => {}
         }
     }
@@ -282,7 +291,10 @@ pub fn search<M: Searched>(alloc: Global, machine: &mut M, limits: &Limits) -> A
     ensures fixed { M.fixed machine.new ≡ M.fixed machine.old }
     ensures home { IsHome result (M.log machine.new) }
     // no run from the start, of any length and any choices, reaches a bad state
-    ensures nothing { result ≡ Answer.Nothing → IsSafe (M.system (M.fixed machine.old)) }
+    ensures nothing { (states : ℕ) → result ≡ Answer.Nothing states → IsSafe (M.system (M.fixed machine.old)) }
+    // the keys of so many reached states, no two of them the same, are closed
+    ensures closed { (states : ℕ) → result ≡ Answer.Nothing states
+        → HasClosed (M.system (M.fixed machine.old)) (M.means (M.fixed machine.old)) states }
     // the log is a run that leads to a bad state
     ensures found { result ≡ Answer.Found → (M.system (M.fixed machine.old)).bad (M.state machine.new) }
     ensures leads { result ≡ Answer.Found → Leads (M.system (M.fixed machine.old)) (M.log machine.new) (M.state machine.new) }
@@ -293,9 +305,8 @@ pub fn search<M: Searched>(alloc: Global, machine: &mut M, limits: &Limits) -> A
         (M.longest (M.fixed machine.old)) limits.now.states limits.now.turns limit }
 {
     match explore(alloc, machine, limits) {
-        Ok(Turn::Found) => Answer::Found,
-        Ok(Turn::Done) => Answer::Nothing,
-        Ok(Turn::GoOn) => unreachable!(),
+        Ok(Explored::BadState) => Answer::Found,
+        Ok(Explored::AllStates(states)) => Answer::Nothing(states),
         Err(limit) => Answer::Limited(go_home(machine, limit)),
     }
 }

@@ -15,8 +15,8 @@ use std::alloc::Global;
 /// What a search for the fewest steps came to.
 #[derive(Clone, Copy)]
 pub enum Shortest {
-    /// No run from the start reaches a bad state.
-    Nothing,
+    /// No run from the start reaches a bad state. So many states were seen, and each of their events leads to one of them.
+    Nothing(usize),
     /// The machine stands in a bad state, and no run of fewer steps than its log reaches one.
     Found,
     /// A limit was met.
@@ -130,7 +130,7 @@ fn narrow_once<M: Searched>(
     let half = (between.top - between.safe) / 2;
     let middle = between.safe + half.min(between.safe + 1);
     match search_within(alloc, machine, middle, limits) {
-        Answer::Nothing => Narrowed::GoesOn(Between {
+        Answer::Nothing(_) => Narrowed::GoesOn(Between {
             safe: middle,
             ..between
         }),
@@ -160,7 +160,7 @@ fn settle<M: Searched>(
         End::Cut(limit) => limit,
         End::Bad => match search_within(alloc, machine, between.top, limits) {
             Answer::Found => return Shortest::Found,
-            Answer::Nothing => unreachable!(),
+            Answer::Nothing(_) => unreachable!(),
             Answer::Limited(limit) => limit,
         },
     };
@@ -203,7 +203,7 @@ fn search_all<M: Searched>(alloc: Global, machine: &mut M, limits: &Limits) -> N
         (M.longest (M.fixed machine.old)) limits.now.states limits.now.turns result (M.log machine.new) (M.state machine.new) }
 {
     match search(alloc, machine, limits) {
-        Answer::Nothing => Narrowed::Ended(Shortest::Nothing),
+        Answer::Nothing(states) => Narrowed::Ended(Shortest::Nothing(states)),
         Answer::Found => come_closer(machine, 0),
         Answer::Limited(limit) => cut_at(limit, u64::MAX, 0, None),
     }

@@ -45,9 +45,9 @@ fn a_trap_below_the_landing_is_found(rt: HostRuntime) {
 
 #[test]
 fn no_trap_is_found_where_there_is_none(rt: HostRuntime) {
-    for alone in [0, 1, 100] {
+    for (alone, seen) in [(0, 6), (1, 3), (100, 1)] {
         let (answer, moves) = searched(rt.alloc(), 5, 9, Limits { alone, ..AMPLE });
-        assert!(rt; matches!(answer, Answer::Nothing) && moves == 0);
+        assert!(rt; matches!(answer, Answer::Nothing(states) if states == seen) && moves == 0);
     }
 }
 
@@ -86,7 +86,7 @@ fn the_fewest_moves_to_a_trap_are_found(rt: HostRuntime) {
         assert!(rt; matches!(answer, Shortest::Found) && moves == trap as usize);
     }
     let (answer, moves) = searched_shortest(rt.alloc(), 5, 9, AMPLE);
-    assert!(rt; matches!(answer, Shortest::Nothing) && moves == 0);
+    assert!(rt; matches!(answer, Shortest::Nothing(1)) && moves == 0);
 }
 
 // Each place takes three tasks, but for the last one that a bound allows, which takes one. A search of at most two moves so ends
