@@ -19,6 +19,7 @@ use Rattle.gr_search.specs.declared.shortest.Shortest.{Shortest}
 use Rattle.gr_search.specs.declared.shortest.Shortest.TheVariants as shortests
 use Rattle.gr_search.specs.declared.shortest.Unfinished.{Unfinished}
 use Rattle.gr_search.specs.Going as search
+use Rattle.gr_search.specs.Going.{HasClosed}
 use Rattle.gr_search.specs.declared.search.Answer.{Answer}
 use Rattle.gr_search.specs.declared.search.Answer.TheVariants.{Nothing, Found, Limited}
 use Rattle.gr_search.specs.declared.searched.Limit.TheVariants.{Memory, Steps, States, Turns, Back}
@@ -150,7 +151,7 @@ module _ (m n : Machine) (base : ℕ) (all : base ≡ length (steps_of m)) (is :
 
   pub is_home : (answer : Answer) → search.IsHome answer (events_since n base) → IsHome p w answer n
   is_home Found h = tt
-  is_home Nothing h = home h
+  is_home (Nothing states) h = home h
   is_home (Limited Back) h = stands_on
   is_home (Limited Memory) h = home h
   is_home (Limited Steps) h = home h
@@ -205,8 +206,11 @@ module _ (m n : Machine) (base there : ℕ) (all : base ≡ length (steps_of m))
     abbrev Ends : Shortest → Type 0
     Ends r = shortest.IsShortest (schedules_to aim (origin_of m base)) means offers longest states turns r (events_since n there) (state_seen n)
 
-    pub shortest_nothing : (r : Shortest) → Ends r → r ≡ shortests.Nothing → (p : Program) (w : Timeline p) → Stands p w m → NoneComes aim p w.past.state
-    shortest_nothing r h e = nothing_found aim (subst Ends e h).0
+    pub shortest_nothing : (r : Shortest) → Ends r → (count : ℕ) → r ≡ shortests.Nothing count → (p : Program) (w : Timeline p) → Stands p w m → NoneComes aim p w.past.state
+    shortest_nothing r h count e = nothing_found aim (subst Ends e h).0
+
+    pub shortest_closed : (r : Shortest) → Ends r → (count : ℕ) → r ≡ shortests.Nothing count → HasClosed (schedules_to aim (origin_of m base)) means count
+    shortest_closed r h count e = (subst Ends e h).1
 
     pub shortest_found : (r : Shortest) → Ends r → Leads (schedules_to aim (origin_of m base)) (events_since n there) (state_seen n) → r ≡ shortests.Found
         → (p : Program) (w : Timeline p) → Stands p w m → ComesByFewest aim p w n
@@ -220,7 +224,7 @@ module _ (m n : Machine) (base there : ℕ) (all : base ≡ length (steps_of m))
     shortest_cut r h u e = let x = subst Ends e h in x.0.met
 
     pub shortest_home : (r : Shortest) → Ends r → (p : Program) (w : Timeline p) → Stands p w m → IsHomeAfter p w r n
-    shortest_home shortests.Nothing h = all_home Nothing h.1
+    shortest_home (shortests.Nothing count) h = all_home (Nothing count) h.2
     shortest_home shortests.Found h = λ p w s. tt
     shortest_home (shortests.Limited u) h = all_home (Limited u.limit) h.1
 

@@ -78,4 +78,4 @@ abbrev pub IsHome : (p : Program) → Timeline p → Answer → Machine → Type
 IsHome p w Found m = Unit {0}
 IsHome p w (Limited Back) m = StandsOn p w m
 IsHome p w (Limited limit) m = StandsAgain p w m
-IsHome p w Nothing m = StandsAgain p w m
+IsHome p w (Nothing states) m = StandsAgain p w m

@@ -26,4 +26,4 @@ pub record IsKnownOf (aim : Aim) (p : Program) (s : State) (u : Unfinished) : Ty
 abbrev pub IsHomeAfter : (p : Program) → Timeline p → Shortest → Machine → Type 0
 IsHomeAfter p w Found m = Unit {0}
 IsHomeAfter p w (Limited u) m = IsHome p w (answers.Limited u.limit) m
-IsHomeAfter p w Nothing m = StandsAgain p w m
+IsHomeAfter p w (Nothing states) m = StandsAgain p w m

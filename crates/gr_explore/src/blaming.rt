@@ -59,7 +59,7 @@ fn search_there(alloc: Global, machine: &mut Machine, limits: &Limits) -> Verdic
 {
     match explore_for(alloc, machine, Aim::EndsWell, limits) {
         Answer::Found => Verdict::Well,
-        Answer::Nothing => Verdict::Lost,
+        Answer::Nothing(_) => Verdict::Lost,
         Answer::Limited(limit) => Verdict::Unknown(limit),
     }
 }

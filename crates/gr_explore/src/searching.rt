@@ -1,8 +1,8 @@
 //! The search of all schedules of a program, from where its machine stands.
 
-ghost use Rattle.std.specs.Prelude.{◌≡◌, ◌+◌, length};
+ghost use Rattle.std.specs.Prelude.{◌≡◌, ◌+◌, length, ℕ};
 ghost use Rattle.gr_program.specs.Programs.{Program};
-ghost use Rattle.gr_search.specs.Going.{Met};
+ghost use Rattle.gr_search.specs.Going.{HasClosed, Met};
 ghost use Rattle.gr_search.specs.Shortest.{IsCut};
 ghost use Rattle.gr_schedules.specs.Schedules.{NoneEndsBadly, schedules};
 ghost use Rattle.gr_schedules.specs.Aims.{NoneComes, schedules_to};
@@ -26,13 +26,17 @@ use std::alloc::Global;
 /// Explores all schedules of a program from where its machine stands, for one that comes to the aim. Steps that were taken back
 /// before can't be taken again after it.
 ///
-/// With `Nothing` no run of the program from there comes to it, however long it is and whatever is chosen. With `Found` the machine
-/// stands there, and the steps that lead there are the last of its log. Else a limit was met. After every answer but `Found` the
-/// machine stands where it stood, unless a step could not be taken back.
+/// With `Nothing` no run of the program from there comes to it, however long it is and whatever is chosen, and so many states were
+/// seen. With `Found` the machine stands there, and the steps that lead there are the last of its log. Else a limit was met. After
+/// every answer but `Found` the machine stands where it stood, unless a step could not be taken back.
 pub fn explore_for(alloc: Global, machine: &mut Machine, aim: Aim, limits: &Limits) -> Answer
     requires { IsMachine machine.old }
-    ensures nothing { (p : Program) (w : Timeline p) → Stands p w machine.old
-        → result ≡ Answer.Nothing → NoneComes aim p w.past.state }
+    ensures nothing { (p : Program) (w : Timeline p) (states : ℕ) → Stands p w machine.old
+        → result ≡ Answer.Nothing states → NoneComes aim p w.past.state }
+    // the keys of so many reached states, no two of them the same, are closed
+    ensures closed { (states : ℕ) → result ≡ Answer.Nothing states
+        → let origin = origin_of machine.old (length (steps_of machine.old)) in
+        HasClosed (schedules_to aim origin) (IsKey origin.program) states }
     ensures found { (p : Program) (w : Timeline p) → Stands p w machine.old
         → result ≡ Answer.Found → ComesTo aim p w machine.new }
     ensures home { (p : Program) (w : Timeline p) → Stands p w machine.old → IsHome p w result machine.new }
@@ -59,12 +63,15 @@ pub fn explore_for(alloc: Global, machine: &mut Machine, aim: Aim, limits: &Limi
 /// as for any aim.
 pub fn explore(alloc: Global, machine: &mut Machine, limits: &Limits) -> Answer
     requires { IsMachine machine.old }
-    ensures nothing { (p : Program) (w : Timeline p) → Stands p w machine.old
-        → result ≡ Answer.Nothing → NoneEndsBadly p w.past.state }
+    ensures nothing { (p : Program) (w : Timeline p) (states : ℕ) → Stands p w machine.old
+        → result ≡ Answer.Nothing states → NoneEndsBadly p w.past.state }
+    // as for any aim
+    ensures closed { (states : ℕ) → result ≡ Answer.Nothing states
+        → let origin = origin_of machine.old (length (steps_of machine.old)) in
+        HasClosed (schedules origin) (IsKey origin.program) states }
     ensures found { (p : Program) (w : Timeline p) → Stands p w machine.old
         → result ≡ Answer.Found → EndsBadly p w machine.new }
     ensures home { (p : Program) (w : Timeline p) → Stands p w machine.old → IsHome p w result machine.new }
-    // as for any aim
     ensures limited { (limit : LimitMet) → result ≡ Answer.Limited limit
         → let origin = origin_of machine.old (length (steps_of machine.old)) in
         Met (schedules origin) (IsKey origin.program) (AreChoices origin.program) (longest_after origin)
@@ -77,14 +84,18 @@ pub fn explore(alloc: Global, machine: &mut Machine, limits: &Limits) -> Answer
 /// all of them, and then those of at most so many steps, for several numbers. Each of these searches has the limits for itself.
 /// Steps that were taken back before can't be taken again after it.
 ///
-/// With `Nothing` no run of the program from there comes to the aim. With `Found` the machine stands there, the steps that lead
-/// there are the last of its log, and no run of fewer steps comes to it. Else a limit was met: `safe` tells up to how many steps no
+/// With `Nothing` no run of the program from there comes to the aim, and so many states were seen. With `Found` the machine stands
+/// there, the steps that lead there are the last of its log, and no run of fewer steps comes to it. Else a limit was met: `safe` tells up to how many steps no
 /// run comes to the aim, and `known` how many steps lead to it, if a run is known. After every answer but `Found` the machine stands
 /// where it stood, unless a step could not be taken back.
 pub fn explore_shortest(alloc: Global, machine: &mut Machine, aim: Aim, limits: &Limits) -> Shortest
     requires { IsMachine machine.old }
-    ensures nothing { (p : Program) (w : Timeline p) → Stands p w machine.old
-        → result ≡ Shortest.Nothing → NoneComes aim p w.past.state }
+    ensures nothing { (p : Program) (w : Timeline p) (states : ℕ) → Stands p w machine.old
+        → result ≡ Shortest.Nothing states → NoneComes aim p w.past.state }
+    // the keys of so many reached states, no two of them the same, are closed
+    ensures closed { (states : ℕ) → result ≡ Shortest.Nothing states
+        → let origin = origin_of machine.old (length (steps_of machine.old)) in
+        HasClosed (schedules_to aim origin) (IsKey origin.program) states }
     ensures found { (p : Program) (w : Timeline p) → Stands p w machine.old
         → result ≡ Shortest.Found → ComesByFewest aim p w machine.new }
     ensures home { (p : Program) (w : Timeline p) → Stands p w machine.old → IsHomeAfter p w result machine.new }

@@ -17,7 +17,7 @@ returns-in-Nothing-clause-on c =
 
 pub returns-in-Nothing-clause-verdict : goal.returns-in-Nothing-clause-verdict
 returns-in-Nothing-clause-verdict c =
-    lost_here c.args.machine.now c.requires (c.explore_for.ensures.nothing (program_at (store_of c.args.machine.now)) c.requires.world c.requires.stands c.in-Nothing.is)
+    lost_here c.args.machine.now c.requires (c.explore_for.ensures.nothing (program_at (store_of c.args.machine.now)) c.requires.world _ c.requires.stands c.in-Nothing.is)
 
 pub returns-in-Limited-clause-on : goal.returns-in-Limited-clause-on
 returns-in-Limited-clause-on c =
