@@ -10,6 +10,7 @@ use Rattle.gr_step.specs.Stores.{contents_at}
 use Rattle.gr_rollback.specs.declared.machine.Machine.{Machine}
 use Rattle.gr_rollback.specs.Machines.{store_of, steps_of, Stands}
 use Rattle.gr_rollback.specs.Pasts.{Past, Timeline, events_in}
+use Rattle.gr_search.specs.Going.{HasClosed}
 use Rattle.gr_search.specs.Shortest.{IsCut}
 use Rattle.gr_search.specs.declared.search.Answer.TheVariants as answers
 use Rattle.gr_search.specs.declared.search.Limits.{Limits}
@@ -26,7 +27,7 @@ use Rattle.gr_explore.specs.Exploring.{ComesTo, IsHome, StandsAgain, events_at, 
 use Rattle.gr_explore.specs.Fewest.{ComesByFewest, IsKnownOf}
 use Rattle.gr_explore.specs.Leading.{seen_as}
 use Rattle.gr_survey.specs.declared.surveying.Schedule.{Schedule}
-use Rattle.gr_survey.specs.Schedules.{EndsAs, IsSchedule, IsShortest, IsUnfinished}
+use Rattle.gr_survey.specs.Schedules.{AreAll, EndsAs, IsSchedule, IsShortest, IsUnfinished}
 use Rattle.gr_survey.specs.StepTexts.{commands_text}
 
 -- where a machine stands in a state that is bad, it is seen to be bad
@@ -86,6 +87,11 @@ begins_at p w m s =
     as_long : (log : List (Logged p)) → length (events_in p log) ≡ length log
     as_long [] = refl
     as_long (r ∷ log) = ap suc (as_long log)
+
+-- so many states were seen
+pub all_there : (p : Program) (w : Timeline p) (m : Machine) (states : ℕ) → Stands p w m
+    → (let origin = origin_of m (length (steps_of m)) in HasClosed (schedules_to EndsBadly origin) (IsKey origin.program) states) → AreAll p w.past states
+all_there p w m states s closed = subst (λ (o : Origin). HasClosed (schedules_to EndsBadly o) (IsKey o.program) states) (begins_at p w m s) closed
 
 -- what is known where a limit was met
 pub unfinished_there : (p : Program) (w : Timeline p) (m : Machine) (limits : Limits) (u : Unfinished) → Stands p w m → IsKnownOf EndsBadly p w.past.state u

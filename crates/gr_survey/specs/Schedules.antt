@@ -7,6 +7,7 @@ use Rattle.gr_rules.specs.Steps.{machine}
 use Rattle.gr_rules.specs.Turns.{IsReady}
 use Rattle.gr_laws.specs.Reached.{Logged}
 use Rattle.gr_rollback.specs.Pasts.{Past, events_in}
+use Rattle.gr_search.specs.Going.{HasClosed}
 use Rattle.gr_search.specs.Shortest.{IsCut}
 use Rattle.gr_search.specs.declared.search.Limits.{Limits}
 use Rattle.gr_search.specs.declared.shortest.Unfinished.{Unfinished}
@@ -53,9 +54,14 @@ module _ (p : Program) (w : Past p) where
     pub met : let origin : Origin = record { program = p; before = events_in p w.log } in
         IsCut (schedules_to EndsBadly origin) (IsKey p) (AreChoices p) (longest_after origin) limits.states limits.turns (u.safe + 1) u.limit
 
+  -- so many states were seen from there: by their keys, of which no two are the same and which are closed
+  abbrev pub AreAll : ℕ → Type 0
+  AreAll states = let origin : Origin = record { program = p; before = events_in p w.log } in
+      HasClosed (schedules_to EndsBadly origin) (IsKey p) states
+
   -- what was found there, and what became of the text
   abbrev pub IsFound : Limits → Surveyed → List ℕ → List ℕ → Type 0
-  IsFound limits found.NoneEndsBadly old new = NoneEndsBadly p w.state × (new ≡ old)
+  IsFound limits (found.NoneEndsBadly states) old new = NoneEndsBadly p w.state × AreAll states × (new ≡ old)
   IsFound limits (found.Shortest schedule) old new = IsShortest schedule old new
   IsFound limits (found.Found schedule u) old new = IsSchedule schedule old new × IsUnfinished limits u
   IsFound limits (found.Unfinished u) old new = IsUnfinished limits u × (new ≡ old)

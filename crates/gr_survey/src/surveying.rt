@@ -29,8 +29,8 @@ pub struct Schedule {
 /// What a survey found.
 #[derive(Clone, Copy)]
 pub enum Surveyed {
-    /// No schedule ends badly.
-    NoneEndsBadly,
+    /// No schedule ends badly: all states were seen, so many.
+    NoneEndsBadly(usize),
     /// This one does, and none of fewer steps.
     Shortest(Schedule),
     /// This one does. A limit was met where one of fewer steps was looked for.
@@ -82,7 +82,7 @@ fn find_any(
             let schedule = put_schedule(alloc, machine, text)?;
             Ok(Surveyed::Found(schedule, unfinished))
         }
-        Answer::Nothing | Answer::Limited(_) => Ok(Surveyed::Unfinished(unfinished)),
+        Answer::Nothing(_) | Answer::Limited(_) => Ok(Surveyed::Unfinished(unfinished)),
     }
 }
 
@@ -99,7 +99,7 @@ fn survey_from(
     ensures err { OnErr result (text.new.items ≡ text.old.items) }
 {
     match explore_shortest(alloc, machine, Aim::EndsBadly, limits) {
-        Shortest::Nothing => Ok(Surveyed::NoneEndsBadly),
+        Shortest::Nothing(states) => Ok(Surveyed::NoneEndsBadly(states)),
         Shortest::Found => {
             let schedule = put_schedule(alloc, machine, text)?;
             Ok(Surveyed::Shortest(schedule))
@@ -117,7 +117,7 @@ fn survey_from(
 /// Surveys the program of a source, from where the commands of a script leave it, up to `quit` or to their end. It explores all
 /// schedules from there, of any length and with any choices.
 ///
-/// With `NoneEndsBadly` no schedule from there is stuck or ends in a fault. With `Shortest` and `Found` a schedule is appended to the
+/// With `NoneEndsBadly` no schedule from there is stuck or ends in a fault, and so many states were seen. With `Shortest` and `Found` a schedule is appended to the
 /// text: all its steps from the start of the program, as commands of a script, a line each. It goes on from where the script leaves
 /// the program. With `Shortest` no schedule from there with fewer steps ends badly. With `Found` and `Unfinished` a limit was met; out
 /// of memory within the search is one. In all other cases the text stays as it is.

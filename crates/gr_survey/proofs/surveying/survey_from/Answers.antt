@@ -2,7 +2,7 @@ use Rattle.std.proofs.Common.{refl}
 use Rattle.gr_step.specs.Stores.{program_at}
 use Rattle.gr_rollback.specs.Machines.{store_of}
 use Rattle.gr_explore.proofs.MachineLemmas.{is_machine}
-use Rattle.gr_survey.proofs.ScheduleLemmas.{at_home, bad_there, shortest_found, unfinished_there}
+use Rattle.gr_survey.proofs.ScheduleLemmas.{all_there, at_home, bad_there, shortest_found, unfinished_there}
 use Rattle.gr_survey.proofs.surveying.survey_from.Goals as goal
 
 pub put_schedule-requires : goal.put_schedule-requires
@@ -17,6 +17,13 @@ find_any-requires c =
     let home = c.in-Limited.ensures.home p c.requires.world c.requires.stands in
     let again = at_home p c.requires.world c.explore_shortest.new.machine c.in-Limited.unfinished.limit (c.is_known.ensures c.if-is_known.true) home in
     is_machine p _ c.explore_shortest.new.machine again.stands
+
+pub returns-in-Nothing-clause-found : goal.returns-in-Nothing-clause-found
+returns-in-Nothing-clause-found c = λ p w s. (
+  c.explore_shortest.ensures.nothing p w c.in-Nothing.states s c.in-Nothing.is,
+  all_there p w c.args.machine.now c.in-Nothing.states s (c.explore_shortest.ensures.closed c.in-Nothing.states c.in-Nothing.is),
+  refl,
+)
 
 pub returns-in_ok-schedule-in-Found-clause-found : goal.returns-in_ok-schedule-in-Found-clause-found
 returns-in_ok-schedule-in-Found-clause-found c = λ p w s.
