@@ -154,17 +154,40 @@ def check_end(program: Program, path: Path, commands: list[str], end: str) -> No
     assert len(replies) == len(commands) + 1
 
 
+def seen(found: Searched) -> int:
+    """How many states were seen, where no schedule ends badly."""
+    told = re.fullmatch(r"no schedule ends badly: all (\d+) states seen\n", found.told)
+    assert told, found.told
+    return int(told[1])
+
+
 @pytest.mark.parametrize("name", EXPECTED)
 def test_an_example_comes_to_its_shortest_bad_end_or_to_none(name: str, program: Program) -> None:
     path = EXAMPLES / f"{name}.go"
     bad = EXPECTED[name]
     found = search(program, path)
     if bad is None:
-        assert found == (NONE, [], "no schedule ends badly\n")
+        assert (found.status, found.commands) == (NONE, [])
+        assert seen(found) > 0
         return
     assert (found.status, len(found.commands)) == (BAD, bad.steps)
     assert found.told == f"a schedule of {bad.steps} steps ends in {WORDS[bad.end]}\n"
     check_end(program, path, found.commands, bad.end)
+
+
+@pytest.mark.parametrize("name", [it for it in EXPECTED if EXPECTED[it] is None])
+def test_as_many_states_are_told_as_are_kept(name: str, program: Program) -> None:
+    """A limit of so many states lets the search end, and one of fewer does not."""
+    path = EXAMPLES / f"{name}.go"
+    whole = search(program, path)
+    assert search(program, path, "--states", str(seen(whole))) == whole
+    short = search(program, path, "--states", str(seen(whole) - 1))
+    assert (short.status, short.commands) == (LIMIT, [])
+
+
+def test_a_single_state_is_told_as_one(program: Program, tmp_path: Path) -> None:
+    found = search(program, written(tmp_path, "package main\n\nfunc main() {\n\tfor {\n\t}\n}\n"))
+    assert found == (NONE, [], "no schedule ends badly: its one state seen\n")
 
 
 def test_the_example_that_counts_for_ever_meets_a_limit(program: Program) -> None:

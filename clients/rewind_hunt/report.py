@@ -34,7 +34,7 @@ MOST_SPOTS = 4
 WIDTH = 60
 PRINTED = 100
 CHANCE = "This is a hunt by chance: what it did not find may still be there."
-CERTAIN = "No schedule is stuck or panics: all were searched. Leaks and outputs are hunted by chance, and may still be there."
+CERTAIN = "Leaks and outputs are hunted by chance, and may still be there."
 SPECIAL = re.compile(r"[\\.^$*+?{}\[\]|()]")
 
 
@@ -229,7 +229,9 @@ class Report:
 
 def last_line(searched: Optional[Searched]) -> str:
     """How far the findings go, by what a search of all schedules told."""
-    return CERTAIN if searched and searched.answer is Answer.NONE_BAD else CHANCE
+    if searched and searched.answer is Answer.NONE_BAD:
+        return f"{searched.sentence[:1].upper()}{searched.sentence[1:]}. {CERTAIN}"
+    return CHANCE
 
 
 def by_search(searched: Searched, is_full: bool) -> list[str]:

@@ -35,7 +35,7 @@ async function badEnd(hands) {
 async function noneBad(hands) {
   await hands.story("lost_update");
   await hands.act("search-all");
-  assert.ok(/^No schedule ends badly: /.test(await hands.text("#headline")), "where none ends badly, this is said");
+  assert.ok(/^No schedule ends badly: .*, all \d+ states seen\.$/.test(await hands.text("#headline")), "where none ends badly, this is said");
   assert.equal(await hands.browser.run("document.getElementById('matter').className"), "good");
   await hands.key("s");
   assert.ok(!/No schedule/.test(await hands.text("#headline")), "and no longer once something has changed");

@@ -102,7 +102,7 @@ STATUSES: dict[str, list[tuple[str, Optional[str]]]] = {
         ("rewind --explain N1 >/dev/null", ""),
         ("rewind --help >/dev/null", ""),
         ("rewind --version >/dev/null", ""),
-        ("rewind --search examples/leak.go", "no schedule ends badly\n"),
+        ("rewind --search examples/leak.go", "no schedule ends badly: all 1754 states seen\n"),
     ],
     "1": [
         ("rewind missing.go", "rewind: cannot read missing.go\n"),

@@ -114,8 +114,12 @@ fn tell_schedule(
 /// Tells what a search found.
 fn tell(rt: &HostRuntime, wanted: Wanted<'_>, found: Surveyed, commands: &[u8]) -> ExitCode {
     match found {
-        Surveyed::NoneEndsBadly => {
-            let _ = writeln!(rt.stderr(), "no schedule ends badly");
+        Surveyed::NoneEndsBadly(states) => {
+            let _ = write!(rt.stderr(), "no schedule ends badly: ");
+            let _ = match states {
+                1 => writeln!(rt.stderr(), "its one state seen"),
+                _ => writeln!(rt.stderr(), "all {} states seen", states),
+            };
             ExitCode::from(0)
         }
         Surveyed::Shortest(schedule) => tell_schedule(rt, wanted, schedule, commands),

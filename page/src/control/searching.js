@@ -63,7 +63,7 @@ function tell(page, { status, output, errors }, taken) {
  * @param {number} ahead
  */
 function sentenceOf(status, said, ahead) {
-  if (status === NONE_BAD) return "No schedule ends badly: from here none is stuck or ends in a panic.";
+  if (status === NONE_BAD) return `No schedule ends badly: from here none is stuck or ends in a panic, ${said.replace(/^no schedule ends badly: /, "")}.`;
   const end = /deadlock/.test(said) ? "a deadlock" : "a panic";
   if (status === BAD && !ahead) return `A bad end: the program stands in ${end}.`;
   if (status === BAD) return `A schedule ends badly: ${inSteps(ahead)} from here ${ahead === 1 ? "leads" : "lead"} to ${end}.`;
