@@ -16,8 +16,6 @@ pub(crate) struct Book {
     pub(crate) channels: Pages<ChName>,
     /// Whether all is noted that has changed or has no page. It is not so before the first key, and after memory ran out.
     pub(crate) is_whole: bool,
-    /// How many bytes the last key had.
-    pub(crate) size: usize,
 }
 
 impl Book {
@@ -39,7 +37,6 @@ impl Book {
             goroutines: Pages::unwritten(alloc, Vec::new(alloc)),
             channels: Pages::unwritten(alloc, Vec::new(alloc)),
             is_whole: false,
-            size: 0,
         }
     }
 
@@ -136,14 +133,6 @@ impl Book {
         ensures key { IfOk result (λ bytes. IsKey (program_at (store_of machine.now)) bytes.items (matter (state_seen machine.now))) }
     {
         self.update(alloc, machine)?;
-        let bytes = bytes_of(
-            alloc,
-            machine.store(),
-            &self.goroutines,
-            &self.channels,
-            self.size,
-        )?;
-        self.size = bytes.len();
-        Ok(bytes)
+        bytes_of(alloc, machine.store(), &self.goroutines, &self.channels)
     }
 }

@@ -82,18 +82,22 @@ impl Paged for ChName {
     }
 }
 
+// Bytes of a key beside its pages: of the run, of two ends, and of the number that a search of at most so many steps adds. A key is
+// kept as long as the search goes on, so it has no room for more.
+const BESIDE_PAGES: usize = 3 + 8;
+
 /// The bytes of the state of a store: whether the program runs, the pages of its goroutines, and those of its channels.
 pub(crate) fn bytes_of(
     alloc: Global,
     store: &Store,
     goroutines: &Pages<GoName>,
     channels: &Pages<ChName>,
-    size: usize,
 ) -> Result<Vec<u8>, NoMemory>
     ensures { IfOk result (λ bytes. bytes.items ≡ run_number (contents_at store.now).run
         ∷ ((pages_code goroutines.now.written.items ++ 0 ∷ []) ++ (pages_code channels.now.written.items ++ 0 ∷ []))) }
 {
-    let mut bytes = Vec::with_capacity(alloc, size)?;
+    let size = goroutines.size().saturating_add(channels.size());
+    let mut bytes = Vec::with_capacity(alloc, size.saturating_add(BESIDE_PAGES))?;
     write_byte(run_code(store.run()), &mut bytes)?;
     goroutines.append(&mut bytes)?;
     write_byte(0, &mut bytes)?;

@@ -182,6 +182,15 @@ impl<N: Paged> Pages<N> {
         Ok(())
     }
 
+    /// How many bytes all pages have.
+    pub(crate) fn size(&self) -> usize {
+        let mut size = 0usize;
+        for page in &self.written {
+            size = size.saturating_add(page.bytes.len());
+        }
+        size
+    }
+
     /// Appends all pages.
     pub(crate) fn append(&self, bytes: &mut Vec<u8>) -> Result<(), NoMemory>
         ensures { OnOk result (bytes.new.items ≡ bytes.old.items ++ pages_code self.now.written.items) }

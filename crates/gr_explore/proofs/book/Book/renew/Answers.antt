@@ -13,7 +13,7 @@ pub returns-clause-fits : goal.returns-clause-fits
 returns-clause-fits c d =
     let p = program_at c.args.store.now in
     let s = state_at c.args.store.now in
-    let new : Book = record { goroutines = c.renew.new.self; channels = c.renew-2.new.self; is_whole = c.args.self.now.is_whole; size = c.args.self.now.size } in
+    let new : Book = record { goroutines = c.renew.new.self; channels = c.renew-2.new.self; is_whole = c.args.self.now.is_whole } in
     on_three {S = Describes p s new} c.renew-2.result (λ names pages none. record {
       goroutines = fit_renewed same_go go_is go_self goroutine_page (goroutine_view p) c.args.self.now.goroutines c.renew.new.self s.goroutines (contents_at c.args.store.now).goroutines (λ n. refl)
           c.in_ok-renew.ensures.names c.in_ok-renew.ensures.pages c.in_ok-renew.ensures.none d.goroutines;
