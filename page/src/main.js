@@ -6,6 +6,7 @@ import { inflated, LINK } from "./control/linking.js";
 import { begin, DAMAGED, linked, openBeginning } from "./control/opening.js";
 import { keep, keepOwn, keepSettings, settings } from "./control/keeping.js";
 import { erred } from "./control/losses.js";
+import { exportedRun } from "./exports/saving.js";
 import { legend } from "./picture/legend.js";
 import { act, listenToActions, openStory } from "./control/actions.js";
 import { listenInPicture, listenToKeys } from "./control/shortcuts.js";
@@ -148,7 +149,7 @@ async function start() {
     return page.say("The program cannot run in this browser."), false;
   }
   // The tests and the pictures of the documents reach the page by this name.
-  window.rewind = { page, program: page.machine.program, Session: Engine, act, openStory, toggleBreak, savePicture, asPng, explain, parseFault };
+  window.rewind = { page, program: page.machine.program, Session: Engine, act, openStory, toggleBreak, savePicture, asPng, exportedRun, explain, parseFault };
   await openBeginning(page, shared);
   if (isDamaged) page.say(DAMAGED, "bad");
   keepWork(page);

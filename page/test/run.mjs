@@ -5,6 +5,7 @@ import assert from "node:assert/strict";
 import { basename } from "node:path";
 import { realGo } from "./carrying.mjs";
 import { drawings } from "./drawings.mjs";
+import { exports } from "./exports.mjs";
 import { inputMethods } from "./insertions.mjs";
 import { looks } from "./looks.mjs";
 import { others } from "./others.mjs";
@@ -60,6 +61,7 @@ const ALL = [
   { name: "real Go", part: (/** @type {TestContext} */ t, /** @type {TestBrowser} */ browser) => realGo(t, browser, PAGE) },
   { name: "all schedules", part: searches },
   { name: "drawings", part: drawings },
+  { name: "files for other tools", part: exports },
   { name: "long logs", part: speed },
   { name: "a monkey", part: (/** @type {TestContext} */ t, /** @type {TestBrowser} */ browser) => monkey(t, browser, given(25, 1)) },
   { name: "a hasty monkey", part: (/** @type {TestContext} */ t, /** @type {TestBrowser} */ browser) => hastyMonkey(t, browser, given(15, 5000)) },

@@ -2,6 +2,7 @@
 
 import { asPng } from "../picture/saved.js";
 import { bringBack } from "./losses.js";
+import { EXPORTS } from "../exports/saving.js";
 import { counted, download, field, find } from "../element.js";
 import { fromFiles, toFile, toHash } from "./linking.js";
 import { MOST_STEPS } from "./page.js";
@@ -154,6 +155,7 @@ const ACTIONS = {
   direct,
   save: saveSvg,
   "save-png": savePng,
+  ...EXPORTS,
   help: () => /** @type {HTMLDialogElement} */ (find("help-dialog")).showModal(),
   "copy-link": copyLink,
   "save-file": saveFile,

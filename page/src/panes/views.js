@@ -47,7 +47,7 @@ const controls = {
     enable("redo", lives && Boolean(session?.undone));
     find("redo").textContent = lives && session?.undone ? `Redo ${session.undone.toLocaleString("en")}` : "Redo";
     for (const id of ["back", "bar-back"]) enable(id, lives && Boolean(page.pointing.about && page.pointing.pinned) && !page.past.isOn);
-    for (const id of ["save", "save-png"]) enable(id, Boolean(session?.log.length));
+    for (const id of ["save", "save-png", "save-shiviz", "save-mermaid", "save-csv"]) enable(id, Boolean(session?.log.length));
     showStart(page);
     showStory(page, lives);
     showGhost(page);
