@@ -27,7 +27,7 @@ ROOT = os.path.dirname(HERE)
 MIRROR = "/usr/share/javascript/codemirror"
 LICENCE = "/usr/share/doc/libjs-codemirror/copyright"
 # Later ones go before earlier ones.
-STYLES = ["page", "panel", "source", "picture", "sizes"]
+STYLES = ["page", "panel", "source", "picture", "sizes", "embed"]
 # Names stay as they are, so that a report of an error names functions of the source.
 BUNDLE = ["--bundle", "--minify-whitespace", "--minify-syntax", "--charset=utf8", "--target=es2022", "--log-level=warning"]
 # A command of a story, with what is told before it, and a story or an exercise as the page takes it.

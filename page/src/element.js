@@ -57,6 +57,10 @@ export const field = (id) => /** @type {HTMLInputElement} */ (document.getElemen
  */
 export const enable = (id, can) => (field(id).disabled = !can);
 
+// A text as the value of an attribute of HTML.
+/** @param {string} text */
+export const escapedAttribute = (text) => text.replaceAll("&", "&amp;").replaceAll('"', "&quot;").replaceAll("<", "&lt;");
+
 // Lets the page draw and take clicks.
 export const pause = () => new Promise((go) => setTimeout(go, 0));
 

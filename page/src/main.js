@@ -2,8 +2,9 @@
 
 import { toggleBreak } from "./control/breaks.js";
 import { canSuspend, Session as Engine } from "./engine/engine.js";
-import { inflated, LINK } from "./control/linking.js";
-import { begin, DAMAGED, linked, openBeginning } from "./control/opening.js";
+import { askedBy, inflated } from "./control/linking.js";
+import { begin, linked, openBeginning } from "./control/opening.js";
+import { embed, isEmbedded, linkToFull } from "./control/embedding.js";
 import { keep, keepOwn, keepSettings, settings } from "./control/keeping.js";
 import { erred } from "./control/losses.js";
 import { exportedRun } from "./exports/saving.js";
@@ -24,6 +25,7 @@ import { Words } from "./panes/words.js";
 import { field, find, make, tableRow } from "./element.js";
 import { SMALL } from "./panes/tabs.js";
 import { makeMenus } from "./panes/menus.js";
+import { frameOf } from "./control/sharing.js";
 import { makePanes } from "./panes/splitters.js";
 import { paneEvents, showStepsOf } from "./control/asking.js";
 import { watchExercise } from "./lessons/tasks.js";
@@ -48,7 +50,7 @@ function makePage() {
 async function makeMachine() {
   const program = await WebAssembly.compile(await inflated(find("program").textContent || ""));
   const script = URL.createObjectURL(new Blob([find("worker").textContent || ""], { type: "text/javascript" }));
-  return { program, script, suspends: canSuspend() && location.hash !== "#repeat" };
+  return { program, script, suspends: canSuspend() && !askedBy(location.hash).isRepeating };
 }
 
 /** @param {Page} page */
@@ -64,6 +66,8 @@ function listenToLinks(page) {
   window.addEventListener("hashchange", async () => {
     const { link } = await linked(page);
     if (!link) return;
+    embed(askedBy(location.hash).isEmbedded);
+    page.views.editor.refresh();
     page.tour.leave();
     page.views.stories.choose(link.name || "");
     page.views.editor.text = link.source;
@@ -93,12 +97,13 @@ function takeSettings() {
 function keepWork(page) {
   let timer = 0;
   const now = () => {
+    if (isEmbedded()) return;
     keep(page.work);
     if (!page.views.stories.isOf(page.views.editor.text)) keepOwn(page.views.editor.text);
   };
   page.listeners.push(() => {
     clearTimeout(timer);
-    if (location.hash.startsWith(LINK)) history.replaceState(null, "", location.href.split("#")[0]);
+    if (askedBy(location.hash).isLink && !isEmbedded()) history.replaceState(null, "", location.href.split("#")[0]);
     timer = window.setTimeout(now, 200);
     page.views.controls.show(page);
   });
@@ -126,6 +131,7 @@ function listenToErrors(page) {
 
 async function start() {
   document.head.append(make("style", {}, tokenRules() + PICTURE_RULES));
+  embed(askedBy(location.hash).isEmbedded);
   takeSettings();
   const page = makePage();
   listenToErrors(page);
@@ -138,23 +144,24 @@ async function start() {
   makePanes(page);
   fillHelp(page);
   watchExercise(page);
-  const { shared, isDamaged, isFirst, theme } = await begin(page);
+  linkToFull(page);
+  const { shared, fault, isFirst, theme } = await begin(page);
   if (theme) setTheme(theme);
   page.showControls();
   try {
     page.machine = await makeMachine();
-  } catch (fault) {
+  } catch (hindrance) {
     find("cannot").hidden = false;
-    find("cannot").textContent = `${BROWSERS} This one says: ${fault instanceof Error ? fault.message : fault}`;
+    find("cannot").textContent = `${BROWSERS} This one says: ${hindrance instanceof Error ? hindrance.message : hindrance}`;
     return page.say("The program cannot run in this browser."), false;
   }
   // The tests and the pictures of the documents reach the page by this name.
-  window.rewind = { page, program: page.machine.program, Session: Engine, act, openStory, toggleBreak, savePicture, asPng, exportedRun, explain, parseFault };
+  window.rewind = { page, program: page.machine.program, Session: Engine, act, openStory, toggleBreak, savePicture, asPng, exportedRun, frameOf, explain, parseFault };
   await openBeginning(page, shared);
-  if (isDamaged) page.say(DAMAGED, "bad");
+  if (fault) page.say(fault, "bad");
   keepWork(page);
   listenToLinks(page);
-  if (isFirst && !isDamaged) void page.tour.offer();
+  if (isFirst && !fault) void page.tour.offer();
   return true;
 }
 

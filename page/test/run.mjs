@@ -5,6 +5,7 @@ import assert from "node:assert/strict";
 import { basename } from "node:path";
 import { realGo } from "./carrying.mjs";
 import { drawings } from "./drawings.mjs";
+import { embedded } from "./embed.mjs";
 import { exports } from "./exports.mjs";
 import { inputMethods } from "./insertions.mjs";
 import { looks } from "./looks.mjs";
@@ -62,6 +63,7 @@ const ALL = [
   { name: "all schedules", part: searches },
   { name: "drawings", part: drawings },
   { name: "files for other tools", part: exports },
+  { name: "in a frame", part: (/** @type {TestContext} */ t, /** @type {TestBrowser} */ browser) => embedded(t, browser, { page: PAGE, folder: LOOKS }) },
   { name: "long logs", part: speed },
   { name: "a monkey", part: (/** @type {TestContext} */ t, /** @type {TestBrowser} */ browser) => monkey(t, browser, given(25, 1)) },
   { name: "a hasty monkey", part: (/** @type {TestContext} */ t, /** @type {TestBrowser} */ browser) => hastyMonkey(t, browser, given(15, 5000)) },

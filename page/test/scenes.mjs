@@ -69,6 +69,15 @@ async function searched(hands) {
   await hands.browser.run("document.getElementById('search-text').value = 'from', document.getElementById('search').onsubmit(new Event('submit'))");
 }
 
+// In a frame of another page.
+/** @param {Hands} hands */
+async function frame(hands) {
+  await hands.browser.run("location.hash = '#story=untie_the_deadlock&embed'");
+  await hands.until("document.body.classList.contains('embed') && rewind.page.views.stories.name === 'untie_the_deadlock' && rewind.page.session.log.length === 16");
+  await hands.idle();
+  await hands.browser.run("rewind.page.pointing.show('g0.2#1')");
+}
+
 /** @type {{name: string, show: (hands: Hands) => Promise<void>}[]} */
 const WIDE = [
   { name: "first view", show: firstView },
@@ -98,6 +107,7 @@ export const SCENES = [
   { name: "state on a phone", ...PHONE, show: async (hands) => (await chosen(hands), hands.browser.run("rewind.page.views.windows.show('state')")) },
   { name: "tablet", width: 820, height: 1180, show: past },
   { name: "zoom of 200 percent", width: 640, height: 360, show: chosen },
+  { name: "frame", width: 600, height: 400, show: frame },
   { name: "dark", width: 1280, height: 720, scheme: "dark", show: chosen },
   { name: "dark past state", width: 1280, height: 720, scheme: "dark", show: past },
   { name: "refused source in the dark", width: 1280, height: 720, scheme: "dark", show: (hands) => hands.program("number_too_large") },

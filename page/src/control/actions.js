@@ -3,8 +3,8 @@
 import { asPng } from "../picture/saved.js";
 import { bringBack } from "./losses.js";
 import { EXPORTS } from "../exports/saving.js";
-import { counted, download, field, find } from "../element.js";
-import { fromFiles, toFile, toHash } from "./linking.js";
+import { download, field, find } from "../element.js";
+import { copyFrame, copyLink, openFiles, saveFile } from "./sharing.js";
 import { MOST_STEPS } from "./page.js";
 import { runAlone, runToLine, stepOver } from "./moves.js";
 import { savePicture } from "../picture/saving.js";
@@ -34,43 +34,6 @@ async function nextOfStory(page) {
   const reply = await page.perform(line);
   if (reply) stories.take();
   page.showControls();
-}
-
-/** @param {Page} page */
-const shared = (page) => ({ ...page.work, chosen: page.pointing.pinned, theme: document.documentElement.dataset.theme || "" });
-
-const OF_DISK = "It holds the whole session, but begins with the place of this page on your disk. Who has the page too puts the part from #s= on behind its address. For others press Save, and send the file: the page opens it.";
-
-/** @param {Page} page */
-async function copyLink(page) {
-  const address = location.href.split("#")[0] + (await toHash(shared(page)));
-  try {
-    await navigator.clipboard.writeText(address);
-    page.say(`The link is copied: ${counted(address.length, "letter")}. ${location.protocol === "file:" ? OF_DISK : "Whoever opens it sees this session."}`);
-  } catch {
-    history.replaceState(null, "", address);
-    page.say("The link stands in the address until the next change: copy it from there.");
-  }
-}
-
-/** @param {Page} page */
-const saveFile = (page) => download(new Blob([toFile(shared(page))], { type: "text/plain" }), `${page.views.stories.name}.go`);
-
-// Opens what files hold. Undoing in the editor brings the text before back.
-/**
- * @param {Page} page
- * @param {Iterable<File>} files
- */
-async function openFiles(page, files) {
-  const read = await Promise.all([...files].map(async (file) => ({ name: file.name, text: await file.text() })));
-  const { source, commands } = fromFiles(read);
-  if (source !== null) {
-    page.views.stories.choose("");
-    page.views.editor.text = source;
-    if (!(await page.open())) return;
-  }
-  await page.replay(commands);
-  if (commands.length) page.say(`${counted(commands.length, "command")} ${commands.length === 1 ? "was" : "were"} done.`);
 }
 
 /** @param {Page} page */
@@ -158,6 +121,7 @@ const ACTIONS = {
   ...EXPORTS,
   help: () => /** @type {HTMLDialogElement} */ (find("help-dialog")).showModal(),
   "copy-link": copyLink,
+  "copy-frame": copyFrame,
   "save-file": saveFile,
   "open-file": () => field("file").click(),
   present,

@@ -10,8 +10,16 @@
  * @property {string} [name]
  */
 
-export const LINK = "#s="; // before what a link holds
+const LINK = "#s="; // before what a link holds
 const COMMANDS = "\n// commands of Rewind:\n"; // between source and commands in one file
+
+// What the part of an address behind its `#` asks for: words with `&` between them.
+/** @param {string} hash */
+export function askedBy(hash) {
+  const words = new URLSearchParams(hash.slice(1));
+  const [session, story] = [words.get("s"), words.get("story")];
+  return { session, story, isLink: session !== null || story !== null, isEmbedded: words.has("embed"), isRepeating: words.has("repeat") };
+}
 
 /**
  * @param {Uint8Array} bytes
@@ -49,8 +57,8 @@ export const inflated = (text) => through(toBytes(text.trim()), new Decompressio
  * @returns {Promise<Shared | null>}
  */
 export async function fromHash(hash) {
-  if (!hash.startsWith(LINK)) return null;
-  return checked(JSON.parse(new TextDecoder().decode(await inflated(hash.slice(LINK.length)))));
+  const { session } = askedBy(hash);
+  return session === null ? null : checked(JSON.parse(new TextDecoder().decode(await inflated(session))));
 }
 
 // What was read of a link or of what was kept, with the types that it must have.

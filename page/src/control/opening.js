@@ -1,25 +1,40 @@
 // What the page begins with: the text of a link, the work that was kept, or a deadlock that has happened.
 
 import { counted } from "../element.js";
-import { fromHash } from "./linking.js";
+import { isEmbedded } from "./embedding.js";
+import { askedBy, fromHash } from "./linking.js";
 import { kept } from "./keeping.js";
 
-export const DAMAGED = "The link is damaged, and no session can be read of it: ask for it anew.";
+const DAMAGED = "The link is damaged, and no session can be read of it: ask for it anew.";
 // The first view: the program is stuck, and a step is chosen that can be taken back.
 const FIRST = { name: "deadlock", commands: ["run 100"], chosen: "g0.2#1" };
 
 /** @typedef {import("./page.js").Page} Page */
 /** @typedef {import("./linking.js").Shared} Shared */
 
-// What the address holds, or nothing.
+// What the address holds, or nothing; and what is wrong with it.
 /** @param {Page} page */
 export async function linked(page) {
+  const { fault, link } = await readAddress(page.views.stories);
+  if (fault) {
+    page.views.transcript.fault(fault);
+    page.say(fault, "bad");
+  }
+  return { link, fault };
+}
+
+/**
+ * @param {import("../lessons/stories.js").Stories} stories
+ * @returns {Promise<{link: Shared | null, fault: string}>}
+ */
+async function readAddress(stories) {
+  const { story } = askedBy(location.hash);
+  const link = story === null ? null : stories.beginning(story);
+  if (story !== null && !link) return { link, fault: `There is no story “${story}” in this page: choose one in the menu.` };
   try {
-    return { link: await fromHash(location.hash), isDamaged: false };
+    return { link: link || (await fromHash(location.hash)), fault: "" };
   } catch {
-    page.views.transcript.fault(DAMAGED);
-    page.say(DAMAGED, "bad");
-    return { link: null, isDamaged: true };
+    return { link: null, fault: DAMAGED };
   }
 }
 
@@ -27,12 +42,12 @@ export async function linked(page) {
 /** @param {Page} page */
 export async function begin(page) {
   const { editor, stories } = page.views;
-  const [{ link, isDamaged }, work] = [await linked(page), kept()];
+  const [{ link, fault }, work] = [await linked(page), isEmbedded() ? null : kept()];
   const shared = link || work;
   const source = stories.choose(shared ? shared.name || "" : FIRST.name);
   editor.begin(work ? work.source : link ? "" : source);
   if (link) editor.text = link.source;
-  return { shared: shared || { ...FIRST, source }, isDamaged, isFirst: !shared, theme: link?.theme || "" };
+  return { shared: shared || { ...FIRST, source }, fault, isFirst: !shared && !isEmbedded(), theme: link?.theme || "" };
 }
 
 // Opens what the page begins with, and does its commands again.

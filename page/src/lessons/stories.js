@@ -42,6 +42,14 @@ export class Stories {
     return (this.story || this.exercise)?.source || "";
   }
 
+  // What a story or an exercise of the menu begins with, or nothing.
+  /** @param {string} name */
+  beginning(name) {
+    const exercise = this.exercises.find((it) => it.name === name);
+    const found = exercise || this.stories.find((it) => it.name === name);
+    return found ? { name, source: found.source, commands: exercise?.before || [] } : null;
+  }
+
   // The exercise behind the one at hand, or nothing.
   get nextExercise() {
     const at = this.exercises.findIndex(({ name }) => name === this.exercise?.name);

@@ -1,0 +1,69 @@
+// What is given to others: a link, a frame for a web page, a file; and what is opened of files.
+
+import { counted, download, escapedAttribute } from "../element.js";
+import { fromFiles, toFile, toHash } from "./linking.js";
+
+/** @typedef {import("./page.js").Page} Page */
+
+const FRAME = { width: 600, height: 400 };
+const OF_DISK = "It holds the whole session, but begins with the place of this page on your disk. Who has the page too puts the part from #s= on behind its address. For others press Save, and send the file: the page opens it.";
+
+/** @param {Page} page */
+export const shared = (page) => ({ ...page.work, chosen: page.pointing.pinned, theme: document.documentElement.dataset.theme || "" });
+
+// The address of the session as it stands.
+/** @param {Page} page */
+export const addressOf = async (page) => location.href.split("#")[0] + (await toHash(shared(page)));
+
+/** @param {Page} page */
+export async function copyLink(page) {
+  const address = await addressOf(page);
+  try {
+    await navigator.clipboard.writeText(address);
+    page.say(`The link is copied: ${counted(address.length, "letter")}. ${location.protocol === "file:" ? OF_DISK : "Whoever opens it sees this session."}`);
+  } catch {
+    history.replaceState(null, "", address);
+    page.say("The link stands in the address until the next change: copy it from there.");
+  }
+}
+
+// What a web page holds to show the session in a frame of its own.
+/** @param {Page} page */
+export async function frameOf(page) {
+  const title = `Rewind: ${page.views.stories.name.replaceAll("_", " ")}`;
+  return `<iframe src="${escapedAttribute(`${await addressOf(page)}&embed`)}" width="${FRAME.width}" height="${FRAME.height}" title="${escapedAttribute(title)}"></iframe>`;
+}
+
+/** @param {Page} page */
+export async function copyFrame(page) {
+  const text = await frameOf(page);
+  const where = location.protocol === "file:" ? " It names this page on your disk: put the address of the page on your server in its place." : "";
+  try {
+    await navigator.clipboard.writeText(text);
+    page.say(`The frame is copied, as HTML for a web page.${where}`);
+  } catch {
+    page.views.transcript.remark(text);
+    page.views.tabs.show("commands");
+    page.say(`The frame stands among the commands, as HTML for a web page: copy it from there.${where}`);
+  }
+}
+
+/** @param {Page} page */
+export const saveFile = (page) => download(new Blob([toFile(shared(page))], { type: "text/plain" }), `${page.views.stories.name}.go`);
+
+// Opens what files hold. Undoing in the editor brings the text before back.
+/**
+ * @param {Page} page
+ * @param {Iterable<File>} files
+ */
+export async function openFiles(page, files) {
+  const read = await Promise.all([...files].map(async (file) => ({ name: file.name, text: await file.text() })));
+  const { source, commands } = fromFiles(read);
+  if (source !== null) {
+    page.views.stories.choose("");
+    page.views.editor.text = source;
+    if (!(await page.open())) return;
+  }
+  await page.replay(commands);
+  if (commands.length) page.say(`${counted(commands.length, "command")} ${commands.length === 1 ? "was" : "were"} done.`);
+}
