@@ -12,6 +12,7 @@ import { search } from "./asking.js";
 import { follow, searchAll } from "./searching.js";
 import { showCompared } from "../panes/compare.js";
 import { nextTask, openTask } from "../lessons/tasks.js";
+import { nextOfStory } from "./telling.js";
 import { ownText } from "./keeping.js";
 
 /** @typedef {import("./page.js").Page} Page */
@@ -23,17 +24,6 @@ function run(page) {
   const count = Number(text);
   if (!/^\d+$/.test(text) || count < 1 || count > MOST_STEPS) return page.say("Run takes a whole number of steps, from 1 to 1,000,000.", "bad");
   return page.perform(`run ${count}`);
-}
-
-/** @param {Page} page */
-async function nextOfStory(page) {
-  const { stories } = page.views;
-  const line = stories.next;
-  if (line === undefined) return page.say("The story gives no more commands.");
-  if (page.busy || page.hindrance) return page.say(page.hindrance || "The page is busy: wait a moment.", "bad");
-  const reply = await page.perform(line);
-  if (reply) stories.take();
-  page.showControls();
 }
 
 /** @param {Page} page */
@@ -83,6 +73,7 @@ const ACTIONS = {
   restart: (page) => page.open(),
   own: ownProgram,
   next: nextOfStory,
+  play: (page) => page.player.toggle(),
   "tell-it": nextOfStory,
   "run-it": run,
   "run-on": run,

@@ -1,17 +1,16 @@
 // The page: it owns the present session and the views, and shows in them what each command came to. A session is swapped whole.
 
-import { CHANGES, parseFault, wordsOf } from "../engine/protocol.js";
+import { CHANGES, wordsOf } from "../engine/protocol.js";
 import { Annotating } from "./annotating.js";
 import { showBreaks, takeBreaks } from "./breaks.js";
-import { SessionGone } from "../engine/remote.js";
-import { Refused, Session } from "../session/session.js";
+import { Session } from "../session/session.js";
 import { endOfRun } from "../panes/words.js";
-import { carryButton } from "../panes/carrying.js";
-import { explain } from "../refused/refusals.js";
 import { lastOf } from "./finding.js";
-import { blinded, erred, lost } from "./losses.js";
+import { blinded, lost } from "./losses.js";
 import { Past } from "./past.js";
 import { Pointing } from "./pointing.js";
+import { refuse } from "./refusing.js";
+import { Player } from "../lessons/player.js";
 import { Tour } from "../lessons/tour.js";
 import { shownOf } from "../picture/shown.js";
 
@@ -54,6 +53,7 @@ export class Page {
     /** @type {((page: Page) => void)[]} */
     this.listeners = []; // told after each change of what is shown
     this.tour = new Tour(this);
+    this.player = new Player(this);
   }
 
   /**
@@ -97,35 +97,16 @@ export class Page {
         await this.swap(session);
         return true;
       } catch (fault) {
-        if (opening === this.openings) this.refuse(text, fault);
+        if (opening === this.openings) refuse(this, text, fault);
         return false;
       }
     });
   }
 
-  /**
-   * @param {string} text
-   * @param {unknown} fault
-   */
-  refuse(text, fault) {
-    const refusal = fault instanceof Refused && parseFault(fault.errors);
-    if (fault instanceof SessionGone) return this.say(`No session could be opened: ${fault.message}.`, "bad");
-    if (!refusal) return erred(this, fault);
-    const explained = explain(this.given.refusals, text, refusal);
-    const instead = explained.instead ? ` Write instead: ${explained.instead}` : "";
-    const hint = explained.hint ? ` Hint: ${explained.hint}.` : "";
-    const message = `${explained.sentence}.${instead}${hint}`;
-    this.refusedLine = explained.line;
-    const isAtItsLine = this.views.editor.refuse(explained, message, carryButton(this, text));
-    this.views.refusal.show(explained.line ? `Refused at line ${explained.line}: ${message}` : `Refused: ${message}`, isAtItsLine);
-    const kept = this.session ? " The session is still that of the text before." : "";
-    this.views.transcript.fault(`The source in the editor is refused (${refusal.text}).${kept}`);
-    this.say(`${explained.line ? `The source is refused at line ${explained.line}: ` : "The source is refused: "}${explained.sentence}.${kept}`, "bad");
-  }
-
   /** @param {Session} session */
   async swap(session) {
     this.session?.leave();
+    this.player.stop();
     this.session = session;
     this.chosen = "g0";
     this.standing = null;
@@ -260,6 +241,7 @@ export class Page {
   }
 
   stop() {
+    this.player.stop();
     this.isMoving = false;
     if (this.session) this.session.isRunning = false;
   }

@@ -32,6 +32,7 @@ export function listenToKeys(page) {
     { keys: ["u"], says: "take the last step back", act: does("undo") },
     { keys: ["b"], says: "take the chosen step back, with all that depends on it", act: () => void page.pointing.takeBack() },
     { keys: ["y"], says: "take again what was taken back", act: does("redo") },
+    { keys: ["k"], says: "play by itself, or stop", act: does("play") },
     { keys: ["n"], says: "the next command of the story", act: does("next") },
     { keys: [",", "."], shown: ", and .", says: "look at the state one step before, or after", act: (/** @type {string} */ key) => look(page, key === "," ? -1 : 1) },
     { keys: ["v"], says: "presentation: picture and source alone, in large letters", act: does("present") },

@@ -51,6 +51,7 @@ const controls = {
     showStart(page);
     showStory(page, lives);
     showGhost(page);
+    page.player.show();
     find("gone").textContent = session?.gone ? "The session is gone. Its steps can be taken again." : "";
     find("picture-note").textContent = page.annotating.missing;
     showMoment(page);
