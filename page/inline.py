@@ -114,7 +114,7 @@ def given() -> dict[str, Any]:
     """All that the page shows and does not compute."""
     words = told_words()
     refusals = json.loads(read(f"{ROOT}/clients/rewind_client/refusals.json"))
-    told = {name: words[name] for name in ("codes", "kinds", "faults", "go", "commands")}
+    told = {name: words[name] for name in ("codes", "kinds", "faults", "go", "commands", "version")}
     licence = notices.of_page(kit.folder(), read(LICENCE))
     return {**told, "stories": stories(words), "exercises": exercises(), "refusals": refusals, "licence": licence}
 

@@ -296,6 +296,7 @@ def page_words() -> str:
         "commands": [[bare(it.name), bare(it.does)] for it in COMMANDS],
         "shows": {name: bare(it.shows) for it in SESSIONS for name in bare(it.name).split(", ")},
         "stories": stories.for_page(),
+        "version": TEXTS["version"],
     })
 
 

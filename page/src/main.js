@@ -69,7 +69,7 @@ function listenToLinks(page) {
     embed(askedBy(location.hash).isEmbedded);
     page.views.editor.refresh();
     page.tour.leave();
-    page.views.stories.choose(link.name || "");
+    page.views.stories.turnTo(link);
     page.views.editor.text = link.source;
     await openBeginning(page, link);
   });

@@ -36,10 +36,15 @@ interface Clause { number: number; text: string }
 interface Story { name: string; title: string; source: string; script: string; shows: string; level?: string; told: Told[] }
 interface Told { text: string; command: string }
 interface Exercise { name: string; title: string; level: number; source: string; task: string; hint: string; goal: Goal; before: string[] }
-interface Goal { printed?: string; end?: string; most?: number; only?: string; kept?: string[]; without?: string[]; chosen?: string }
+// `state`: how goroutines and channels stand; `safe`: no schedule of the program ends badly.
+interface Goal { printed?: string; end?: string; most?: number; only?: string; kept?: string[]; without?: string[]; chosen?: string; state?: string[]; safe?: boolean }
+// Of one's own: a story, or where there is a goal an exercise.
+interface Lesson { title: string; source: string; shows: string; told: Told[]; task: string; hint: string; before: string[]; goal: Goal | null }
+// What a search of all schedules of a source came to: 0 none ends badly, 4 one does, 5 it is not finished.
+interface SearchedWhole { source: string; status: number; sentence: string }
 interface Given {
   codes: {[code: string]: string}; kinds: {[kind: string]: string}; faults: {[fault: string]: string}; go: {[fault: string]: string}; commands: string[][];
-  stories: Story[]; exercises: Exercise[]; refusals: {[code: string]: RefusalTable}; licence: string;
+  stories: Story[]; exercises: Exercise[]; refusals: {[code: string]: RefusalTable}; licence: string; version: string;
 }
 interface RefusalTable { meaning: string; forms: RefusalForm[] }
 interface RefusalForm {

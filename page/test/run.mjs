@@ -9,6 +9,7 @@ import { embedded } from "./embed.mjs";
 import { exports } from "./exports.mjs";
 import { inputMethods } from "./insertions.mjs";
 import { looks } from "./looks.mjs";
+import { ownLessons } from "./own.mjs";
 import { playing } from "./playing.mjs";
 import { others } from "./others.mjs";
 import { testOf } from "./parts.mjs";
@@ -61,6 +62,7 @@ const ALL = [
   { name: "for everybody", part: access },
   { name: "for a lesson", part: lessons },
   { name: "play", part: playing },
+  { name: "of one's own", part: ownLessons },
   { name: "real Go", part: (/** @type {TestContext} */ t, /** @type {TestBrowser} */ browser) => realGo(t, browser, PAGE) },
   { name: "all schedules", part: searches },
   { name: "drawings", part: drawings },

@@ -69,6 +69,17 @@ async function searched(hands) {
   await hands.browser.run("document.getElementById('search-text').value = 'from', document.getElementById('search').onsubmit(new Event('submit'))");
 }
 
+// The dialog in which a story or an exercise is made.
+/**
+ * @param {Hands} hands
+ * @param {string} kind
+ */
+async function author(hands, kind) {
+  await deadlock(hands);
+  await hands.browser.run(`document.getElementById('make-lesson').click(), document.getElementById('lesson-is-${kind}').click()`);
+  await hands.browser.run(`document.getElementById("lesson-name").focus()`);
+}
+
 // In a frame of another page.
 /** @param {Hands} hands */
 async function frame(hands) {
@@ -93,6 +104,8 @@ const WIDE = [
   { name: "long log", show: longLog },
   { name: "search", show: searched },
   { name: "menu of the picture", show: async (hands) => (await chosen(hands), hands.browser.run("document.getElementById('view').click()")) },
+  { name: "making a story", show: (hands) => author(hands, "story") },
+  { name: "making an exercise", show: (hands) => author(hands, "exercise") },
   { name: "help", show: async (hands) => (await deadlock(hands), hands.browser.run("document.getElementById('help').click()")) },
 ];
 
@@ -105,6 +118,7 @@ export const SCENES = [
   { name: "phone", ...PHONE, show: chosen },
   { name: "source on a phone", ...PHONE, show: async (hands) => (await chosen(hands), hands.browser.run("rewind.page.views.windows.show('source')")) },
   { name: "state on a phone", ...PHONE, show: async (hands) => (await chosen(hands), hands.browser.run("rewind.page.views.windows.show('state')")) },
+  { name: "making an exercise on a phone", ...PHONE, show: (hands) => author(hands, "exercise") },
   { name: "tablet", width: 820, height: 1180, show: past },
   { name: "zoom of 200 percent", width: 640, height: 360, show: chosen },
   { name: "frame", width: 600, height: 400, show: frame },

@@ -9,8 +9,9 @@ import { MOST_STEPS } from "./page.js";
 import { runAlone, runToLine, stepOver } from "./moves.js";
 import { savePicture } from "../picture/saving.js";
 import { search } from "./asking.js";
-import { follow, searchAll } from "./searching.js";
+import { follow, searchAll, searchWhole } from "./searching.js";
 import { showCompared } from "../panes/compare.js";
+import { listenToAuthor, openAuthor } from "../lessons/author.js";
 import { nextTask, openTask } from "../lessons/tasks.js";
 import { nextOfStory } from "./telling.js";
 import { ownText } from "./keeping.js";
@@ -29,14 +30,14 @@ function run(page) {
 /** @param {Page} page */
 async function saveSvg(page) {
   const text = await savePicture(page);
-  if (text) download(new Blob([text], { type: "image/svg+xml" }), `${page.views.stories.name}.svg`);
+  if (text) download(new Blob([text], { type: "image/svg+xml" }), `${page.views.stories.fileName}.svg`);
 }
 
 /** @param {Page} page */
 async function savePng(page) {
   const text = await savePicture(page);
   const blob = text && (await asPng(text));
-  if (blob) download(blob, `${page.views.stories.name}.png`);
+  if (blob) download(blob, `${page.views.stories.fileName}.png`);
 }
 
 // Presentation: picture and source alone, in large letters. Its own button leads out of it, since the header is gone.
@@ -120,6 +121,8 @@ const ACTIONS = {
   now: (page) => page.past.back(),
   "bring-back": bringBack,
   "search-all": searchAll,
+  "search-whole": searchWhole,
+  "make-lesson": openAuthor,
   follow,
   compare: showCompared,
 };
@@ -212,4 +215,5 @@ export function listenToActions(page) {
   for (const name of Object.keys(ACTIONS)) find(name).onclick = () => void ACTIONS[name](page);
   listenToFields(page);
   listenToDrops(page);
+  listenToAuthor(page);
 }

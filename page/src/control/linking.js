@@ -1,4 +1,6 @@
-// A session as a link and as a file: its source, the commands that made it, the breakpoints, the chosen step and the theme.
+// A session as a link: its source, the commands that made it, the breakpoints, the chosen step, the theme, and the story or exercise.
+
+import { checkedLesson, isLine } from "../lessons/lesson.js";
 
 /**
  * @typedef {object} Shared
@@ -8,10 +10,10 @@
  * @property {string} [chosen]
  * @property {string} [theme]
  * @property {string} [name]
+ * @property {Lesson} [lesson]
  */
 
 const LINK = "#s="; // before what a link holds
-const COMMANDS = "\n// commands of Rewind:\n"; // between source and commands in one file
 
 // What the part of an address behind its `#` asks for: words with `&` between them.
 /** @param {string} hash */
@@ -44,8 +46,6 @@ export async function toHash(shared) {
 
 /** @param {unknown} it */
 const isText = (it) => typeof it === "string";
-/** @param {unknown} it */
-const isLine = (it) => typeof it === "string" && /^[^\n\r]*\S[^\n\r]*$/.test(it);
 
 // The bytes of a text in base 64 that were deflated.
 /** @param {string} text */
@@ -71,30 +71,6 @@ export function checked(read) {
   const commands = Array.isArray(read.commands) ? read.commands.filter(isLine) : [];
   const breaks = Array.isArray(read.breaks) ? read.breaks.filter((/** @type {unknown} */ it) => Number.isInteger(it)) : [];
   const [chosen, theme, name] = [read.chosen, read.theme, read.name].map((it) => (isText(it) ? it : ""));
-  return { source: read.source, commands, breaks, chosen, theme, name };
-}
-
-// A source and its commands as one file.
-/** @param {Shared} shared */
-export const toFile = ({ source, commands }) => source + (commands.length ? `${COMMANDS}${commands.map((it) => `// ${it}`).join("\n")}\n` : "");
-
-// What files hold: `NAME.go` a source, `NAME.script` commands, or both in one. The first line of a script of the shell names its source.
-/**
- * @param {{name: string, text: string}[]} files
- * @returns {{source: string | null, commands: string[], name: string}}
- */
-export function fromFiles(files) {
-  /** @type {{source: string | null, commands: string[], name: string}} */
-  const found = { source: null, commands: [], name: "" };
-  for (const { name, text } of files) {
-    if (/\.script$/.test(name)) {
-      found.commands = found.commands.concat(text.split("\n").filter((line) => line.trim() && !line.startsWith("//")));
-      continue;
-    }
-    const [source, behind] = text.split(COMMANDS);
-    found.source = source;
-    found.name = name.replace(/\.\w+$/, "");
-    if (behind) found.commands = found.commands.concat(behind.split("\n").map((line) => line.replace(/^\/\/ ?/, "")).filter((line) => line.trim()));
-  }
-  return found;
+  const lesson = checkedLesson(read.lesson);
+  return { source: read.source, commands, breaks, chosen, theme, name, ...(lesson ? { lesson } : {}) };
 }

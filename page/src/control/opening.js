@@ -44,7 +44,7 @@ export async function begin(page) {
   const { editor, stories } = page.views;
   const [{ link, fault }, work] = [await linked(page), isEmbedded() ? null : kept()];
   const shared = link || work;
-  const source = stories.choose(shared ? shared.name || "" : FIRST.name);
+  const source = stories.turnTo(shared || FIRST);
   editor.begin(work ? work.source : link ? "" : source);
   if (link) editor.text = link.source;
   return { shared: shared || { ...FIRST, source }, fault, isFirst: !shared && !isEmbedded(), theme: link?.theme || "" };

@@ -47,6 +47,8 @@ export class Page {
     this.standing = null;
     /** @type {import("./searching.js").Searched | null} */
     this.searched = null;
+    /** @type {SearchedWhole | null} */
+    this.searchedWhole = null;
     this.pointing = new Pointing(this);
     this.past = new Past(this);
     this.annotating = new Annotating(this);
@@ -371,7 +373,9 @@ export class Page {
     const { session, views } = this;
     const source = views.editor.text;
     const commands = session && session.source === source && session.isKept ? session.commands : [];
-    return { source, commands, breaks: views.editor.breaks, name: views.stories.isOf(source) ? views.stories.name : "" };
+    const { name, own } = views.stories;
+    const isOfStory = views.stories.isOf(source);
+    return { source, commands, breaks: views.editor.breaks, name: isOfStory ? name : "", ...(isOfStory && own ? { lesson: own } : {}) };
   }
 
   // Resolves when everything about the present state is found and shown.

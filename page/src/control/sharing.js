@@ -1,7 +1,8 @@
 // What is given to others: a link, a frame for a web page, a file; and what is opened of files.
 
 import { counted, download, escapedAttribute } from "../element.js";
-import { fromFiles, toFile, toHash } from "./linking.js";
+import { fromFiles, isOfSource, toFile } from "./filing.js";
+import { toHash } from "./linking.js";
 
 /** @typedef {import("./page.js").Page} Page */
 
@@ -11,9 +12,12 @@ const OF_DISK = "It holds the whole session, but begins with the place of this p
 /** @param {Page} page */
 export const shared = (page) => ({ ...page.work, chosen: page.pointing.pinned, theme: document.documentElement.dataset.theme || "" });
 
+// The address of this page, without what stands behind its `#`.
+export const addressBefore = () => location.href.split("#")[0];
+
 // The address of the session as it stands.
 /** @param {Page} page */
-export const addressOf = async (page) => location.href.split("#")[0] + (await toHash(shared(page)));
+export const addressOf = async (page) => addressBefore() + (await toHash(shared(page)));
 
 /** @param {Page} page */
 export async function copyLink(page) {
@@ -30,7 +34,7 @@ export async function copyLink(page) {
 // What a web page holds to show the session in a frame of its own.
 /** @param {Page} page */
 export async function frameOf(page) {
-  const title = `Rewind: ${page.views.stories.name.replaceAll("_", " ")}`;
+  const title = `Rewind: ${page.views.stories.fileName.replaceAll("_", " ")}`;
   return `<iframe src="${escapedAttribute(`${await addressOf(page)}&embed`)}" width="${FRAME.width}" height="${FRAME.height}" title="${escapedAttribute(title)}"></iframe>`;
 }
 
@@ -49,7 +53,7 @@ export async function copyFrame(page) {
 }
 
 /** @param {Page} page */
-export const saveFile = (page) => download(new Blob([toFile(shared(page))], { type: "text/plain" }), `${page.views.stories.name}.go`);
+export const saveFile = (page) => download(new Blob([toFile(shared(page), page.given.version)], { type: "text/plain" }), `${page.views.stories.fileName}.go`);
 
 // Opens what files hold. Undoing in the editor brings the text before back.
 /**
@@ -58,12 +62,27 @@ export const saveFile = (page) => download(new Blob([toFile(shared(page))], { ty
  */
 export async function openFiles(page, files) {
   const read = await Promise.all([...files].map(async (file) => ({ name: file.name, text: await file.text() })));
-  const { source, commands } = fromFiles(read);
-  if (source !== null) {
-    page.views.stories.choose("");
-    page.views.editor.text = source;
+  const opened = fromFiles(read, page.views.editor.text);
+  const { source, commands, lesson } = opened;
+  if (source !== null || lesson) {
+    page.views.stories.turnTo(lesson ? { lesson } : {});
+    page.views.editor.text = source ?? page.views.editor.text;
     if (!(await page.open())) return;
   }
   await page.replay(commands);
-  if (commands.length) page.say(`${counted(commands.length, "command")} ${commands.length === 1 ? "was" : "were"} done.`);
+  page.say(await openedText(page, opened));
+}
+
+// What is said of files that were opened.
+/**
+ * @param {Page} page
+ * @param {import("./filing.js").Opened} opened
+ */
+async function openedText({ given, session }, { commands, lesson, version, digest }) {
+  const what = lesson ? [lesson.goal ? `This is an exercise: ${lesson.title}.` : `This is a story: ${lesson.title}. Next gives its commands.`] : [];
+  const done = commands.length ? [`${counted(commands.length, "command")} ${commands.length === 1 ? "was" : "were"} done.`] : [];
+  const from = version && version !== given.version ? [`The file was saved by version ${version}, and this is ${given.version}.`] : [];
+  const isOf = await isOfSource(digest, session?.source || "");
+  const other = isOf ? [] : ["The script is of another source: its commands may mean something else here."];
+  return [...what, ...done, ...other, ...from].join(" ") || "The program stands before its first step.";
 }

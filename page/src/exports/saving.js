@@ -37,7 +37,7 @@ async function saveRun(page, name) {
   const { ending, type } = FORMATS[name];
   const text = await exportedRun(page, name);
   if (!text) return;
-  download(new Blob([text], { type }), `${page.views.stories.name}.${ending}`);
+  download(new Blob([text], { type }), `${page.views.stories.fileName}.${ending}`);
   if (name === "save-mermaid" && text.length > MERMAID_TEXT) page.say(`The diagram is saved: ${counted(text.length, "letter")}. Mermaid draws up to 50,000, unless its maxTextSize is raised.`);
 }
 

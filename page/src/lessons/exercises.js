@@ -2,7 +2,18 @@
 
 import { counted } from "../element.js";
 
-/** @typedef {{log: import("../session/log.js").Log, scene: Scene, commands: string[], cycle: string[], pinned: string}} State */
+/**
+ * @typedef {object} State
+ * @property {import("../session/log.js").Log} log
+ * @property {Scene} scene
+ * @property {string[]} commands
+ * @property {string[]} cycle
+ * @property {string} pinned
+ * @property {SearchedWhole | null} [searched] what a search of all schedules of this source came to
+ */
+
+const NAMED = 3; // goroutines and channels in a sentence
+const [NONE_BAD, BAD] = [0, 4]; // what a search came to
 
 /** @type {{[end: string]: string}} */
 const NOT_THERE = {
@@ -42,6 +53,33 @@ function missingPrint(printed, { scene }) {
   return `it has ${says(is)}, and should have ${says(printed)}`;
 }
 
+// How goroutines and channels stand: what a goal of a state compares. How many steps led there does not matter.
+/** @param {Scene} scene */
+export const stateOf = ({ goroutines, channels }) => [
+  ...goroutines.map(({ name, state, line, frames }) => [name, state, line ?? "", ...frames.map((frame) => `${frame.name}(${frame.variables.map((it) => `${it.name}=${it.value}`).join(" ")})`)].join(" ")),
+  ...channels.map(({ name, capacity, isClosed, items, senders, receivers }) => [name, capacity, isClosed ? "closed" : "open", ...[items, senders, receivers].map((it) => `[${it.join(" ")}]`)].join(" ")),
+];
+
+// Names what stands otherwise, and not how.
+/**
+ * @param {string[]} wanted
+ * @param {State} state
+ */
+function missingState(wanted, { scene }) {
+  const [is, should] = [stateOf(scene), wanted].map((rows) => new Map(rows.map((row) => [row.split(" ")[0], row])));
+  const other = [...new Set([...should.keys(), ...is.keys()])].filter((name) => is.get(name) !== should.get(name));
+  if (!other.length) return "";
+  const more = other.length > NAMED ? ` and ${other.length - NAMED} more` : "";
+  return `${other.slice(0, NAMED).join(", ")}${more} ${other.length === 1 ? "is" : "are"} not as it is asked`;
+}
+
+/** @param {State} state */
+function missingSearch({ searched }) {
+  if (!searched) return "all schedules are not searched: press Search all schedules";
+  if (searched.status === NONE_BAD) return "";
+  return searched.status === BAD ? "a schedule of this program ends badly" : "the search of all schedules came to no answer";
+}
+
 /**
  * @param {Goal} goal
  * @param {State} state
@@ -61,13 +99,15 @@ function missingCommands({ only, most }, { commands }) {
  */
 export function missing(goal, state) {
   const isThere = (/** @type {string} */ id) => state.log.row(id) >= 0;
-  const { end, printed, kept = [], without = [], chosen } = goal;
+  const { end, printed, kept = [], without = [], chosen, state: wanted, safe } = goal;
   const found = [
     chosen === undefined || state.pinned === chosen ? "" : state.pinned ? "the chosen step is another one" : "no step is chosen",
     kept.every(isThere) ? "" : "a step is not there that is to stay, or to come",
     without.some(isThere) ? "a step is still there that has to go" : "",
     printed === undefined ? "" : missingPrint(printed, state),
     end === undefined ? "" : missingEnd(end, state),
+    wanted === undefined ? "" : missingState(wanted, state),
+    safe ? missingSearch(state) : "",
     missingCommands(goal, state),
   ];
   return found.filter((it) => it).slice(0, 2).join(", and ");

@@ -1,5 +1,6 @@
 // The menu of stories and exercises, the commands that a story gives one after another, and what is told before each of them.
 
+import { exerciseOf, fileNameOf, OWN, storyOf } from "./lesson.js";
 import { make } from "../element.js";
 
 const LETTERS = 68; // of a line, about
@@ -23,6 +24,8 @@ export class Stories {
     this.story = null;
     /** @type {Exercise | null} */
     this.exercise = null;
+    /** @type {Lesson | null} */
+    this.lesson = null; // of one's own, which was opened last
     this.at = 0;
     const option = (/** @type {{name: string, title: string}} */ { name, title }) => make("option", { value: name }, title);
     const shown = this.stories.filter(({ level }) => level);
@@ -34,12 +37,37 @@ export class Stories {
   // Turns to a story or an exercise; of another name to a program of one's own. Gives its source, or "".
   /** @param {string} name */
   choose(name) {
-    this.story = this.stories.find((it) => it.name === name) || null;
-    this.exercise = this.exercises.find((it) => it.name === name) || null;
+    this.story = name === OWN ? storyOf(this.lesson) : this.stories.find((it) => it.name === name) || null;
+    this.exercise = name === OWN ? exerciseOf(this.lesson) : this.exercises.find((it) => it.name === name) || null;
     this.at = 0;
     this.menu.value = this.story || this.exercise ? name : "";
     this.show();
     return (this.story || this.exercise)?.source || "";
+  }
+
+  // Takes a story or an exercise of one's own into the menu, and turns to it. Gives its source.
+  /** @param {Lesson} lesson */
+  open(lesson) {
+    this.lesson = lesson;
+    this.menu.querySelector(`[value=${OWN}]`)?.remove();
+    this.menu.options[0].after(make("option", { value: OWN }, lesson.title));
+    return this.choose(OWN);
+  }
+
+  // Turns to what a link, a file or kept work holds: its own story or exercise, or the one that it names.
+  /** @param {{lesson?: Lesson, name?: string}} shared */
+  turnTo({ lesson, name = "" }) {
+    return lesson ? this.open(lesson) : this.choose(name === OWN ? "" : name);
+  }
+
+  // The story or exercise of one's own that is at hand, or nothing.
+  get own() {
+    return this.name === OWN ? this.lesson : null;
+  }
+
+  // The name of a file of what is at hand.
+  get fileName() {
+    return this.own ? fileNameOf(this.own.title) : this.name;
   }
 
   // What a story or an exercise of the menu begins with, or nothing.
@@ -66,10 +94,10 @@ export class Stories {
     return (this.story || this.exercise)?.name || "program";
   }
 
-  // Whether a text is that of the story or exercise.
+  // Whether a text is that of the story or exercise. Where all schedules of a program are to end well, its text is to be changed.
   /** @param {string} text */
   isOf(text) {
-    return (this.story || this.exercise)?.source === text;
+    return Boolean(this.exercise?.goal.safe) || (this.story || this.exercise)?.source === text;
   }
 
   get commands() {

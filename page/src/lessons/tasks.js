@@ -2,6 +2,7 @@
 
 import { find } from "../element.js";
 import { missing } from "./exercises.js";
+import { OWN } from "./lesson.js";
 import { openStory } from "../control/actions.js";
 import { keepSettings, settings } from "../control/keeping.js";
 
@@ -23,10 +24,11 @@ export async function openTask(page) {
  * @param {Exercise} exercise
  * @param {import("../session/session.js").Session} session
  */
-function missingOf({ cycle, pointing }, { before, goal }, session) {
+function missingOf({ cycle, pointing, searchedWhole }, { before, goal }, session) {
   const prepared = before.every((line, at) => session.commands[at] === line) ? before.length : 0;
   const { log, scene } = session;
-  return missing(goal, { log, scene, cycle, pinned: pointing.pinned, commands: session.commands.slice(prepared) });
+  const searched = searchedWhole?.source === session.source ? searchedWhole : null;
+  return missing(goal, { log, scene, cycle, pinned: pointing.pinned, commands: session.commands.slice(prepared), searched });
 }
 
 /** @param {Page} page */
@@ -38,10 +40,12 @@ function showTask(page) {
   const lacks = missingOf(page, exercise, session);
   find("task-text").textContent = exercise.task;
   find("task-hint").textContent = exercise.hint;
+  find("task-hint").parentElement?.toggleAttribute("hidden", !exercise.hint);
   const verdict = lacks ? `Not yet: ${lacks}.` : "Solved.";
   if (find("task-verdict").textContent !== verdict) find("task-verdict").textContent = verdict;
   find("task").classList.toggle("solved", !lacks);
   find("next-task").hidden = Boolean(lacks) || !nextExercise;
+  find("search-whole").hidden = !exercise.goal.safe;
   if (nextExercise) find("next-task").textContent = `Next exercise: ${nextExercise.title}`;
   if (!lacks) markSolved(page, exercise.name);
 }
@@ -53,7 +57,7 @@ function showTask(page) {
  */
 function markSolved({ views: { stories } }, name) {
   const solved = new Set(settings().solved || []);
-  if (solved.has(name)) return;
+  if (name === OWN || solved.has(name)) return;
   solved.add(name);
   keepSettings({ solved: [...solved] });
   stories.markSolved([name]);

@@ -42,7 +42,7 @@ const controls = {
     for (const id of ["run", "step", "over", "alone", "to-line", "run-on", "run-it"]) enable(id, goesOn);
     for (const id of ["step-of", "alone-of"]) find(id).textContent = page.chosen;
     field("count").disabled = !goesOn;
-    for (const id of ["search-all", "follow"]) enable(id, lives && !page.isMoving);
+    for (const id of ["search-all", "search-whole", "follow"]) enable(id, lives && !page.isMoving);
     enable("undo", lives && Boolean(session?.log.length));
     enable("redo", lives && Boolean(session?.undone));
     find("redo").textContent = lives && session?.undone ? `Redo ${session.undone.toLocaleString("en")}` : "Redo";

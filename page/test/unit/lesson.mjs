@@ -2,7 +2,8 @@
 
 import assert from "node:assert/strict";
 import { test } from "node:test";
-import { checked, fromFiles, fromHash, toFile, toHash } from "../../src/control/linking.js";
+import { fromFiles, toFile } from "../../src/control/filing.js";
+import { checked, fromHash, toHash } from "../../src/control/linking.js";
 import { isReached } from "../../src/lessons/exercises.js";
 import { Log } from "../../src/session/log.js";
 import { meantKey } from "../../src/control/keys.js";
@@ -39,12 +40,14 @@ test("links and files", async () => {
   await fromHash("#s=AAAA").catch((it) => (fault = String(it)));
   assert.ok(fault, "a damaged link is an error");
   assert.deepEqual(checked({ source: "x", commands: ["a", 7, "", "step g0\nstep g0"], breaks: [1, "2"], theme: 5 }), { source: "x", commands: ["a"], breaks: [1], chosen: "", theme: "", name: "" }, "what is read has the types that it must have");
-  const file = { name: "a.go", text: toFile(shared) };
-  assert.deepEqual(fromFiles([file]), { source: shared.source, commands: shared.commands, name: "a" }, "one file holds source and commands");
+  const file = { name: "a.go", text: toFile(shared, "1.2.0") };
+  assert.deepEqual(fromFiles([file]), { source: shared.source, commands: shared.commands, name: "a", lesson: null, version: "1.2.0", digest: "" }, "one file holds source, commands and version");
   const script = { name: "a.script", text: "step g0\n".repeat(200000) };
   assert.equal(fromFiles([script]).commands.length, 200000, "a script may be very long");
-  assert.deepEqual(fromFiles([{ name: "a.go", text: "package main\n" }, { name: "a.script", text: "step g0\n\nrun 3\n" }]), { source: "package main\n", commands: ["step g0", "run 3"], name: "a" }, "so do two");
-  assert.deepEqual(fromFiles([{ name: "a.script", text: "// commands for a.go, SHA-256 00\nrun 3\n" }]).commands, ["run 3"], "the line with which the shell names the source is no command");
+  assert.deepEqual(fromFiles([{ name: "a.go", text: "package main\n" }, { name: "a.script", text: "step g0\n\nrun 3\n" }]), { source: "package main\n", commands: ["step g0", "run 3"], name: "a", lesson: null, version: "", digest: "" }, "so do two");
+  const digest = "0123456789abcdef".repeat(4);
+  const { commands, digest: read } = fromFiles([{ name: "a.script", text: `// commands for a.go, SHA-256 ${digest}\nrun 3\n` }]);
+  assert.deepEqual([commands, read], [["run 3"], digest], "the line with which the shell names the source is no command");
 });
 
 test("two runs, and what goes with a step", () => {
