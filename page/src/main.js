@@ -66,7 +66,9 @@ function listenToLinks(page) {
   window.addEventListener("hashchange", async () => {
     const { link } = await linked(page);
     if (!link) return;
-    embed(askedBy(location.hash).isEmbedded);
+    const { isEmbedded: isFrame, isAsking } = askedBy(location.hash);
+    embed(isFrame);
+    page.prediction.set(isAsking);
     page.views.editor.refresh();
     page.tour.leave();
     page.views.stories.turnTo(link);
@@ -145,6 +147,7 @@ async function start() {
   fillHelp(page);
   watchExercise(page);
   linkToFull(page);
+  page.prediction.set(askedBy(location.hash).isAsking);
   const { shared, fault, isFirst, theme } = await begin(page);
   if (theme) setTheme(theme);
   page.showControls();

@@ -108,7 +108,7 @@ async function look(browser, folder, { name, width, height, scheme = "light", me
 async function leave({ browser }) {
   await browser.call("Emulation.setEmulatedMedia", { media: "", features: [] });
   await browser.run("document.querySelectorAll('dialog[open]').forEach((it) => it.close()), document.body.click(), 0");
-  await browser.run("document.body.classList.remove('embed'), document.getElementById('full').hidden = true, 0");
+  await browser.run("document.body.classList.remove('embed'), document.getElementById('full').hidden = true, rewind.page.prediction.set(false), 0");
   await browser.run("document.body.classList.contains('presentation') && rewind.act(rewind.page, 'present'), rewind.page.views.windows.show('picture'), rewind.page.tour.leave(), 0");
   await browser.run("document.querySelectorAll('.menu:not([hidden])').forEach((it) => document.querySelector(`[aria-controls=${it.id}]`).click()), 0");
 }

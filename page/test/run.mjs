@@ -21,6 +21,7 @@ import { lessons } from "./lesson.mjs";
 import { roomAndRank } from "./room.mjs";
 import { saidWords } from "./words.mjs";
 import { hastyMonkey, monkey } from "./monkey.mjs";
+import { predictions } from "./predicting.mjs";
 import { speed } from "./speed.mjs";
 import { truths } from "./truths.mjs";
 import { wideModule } from "./wide.mjs";
@@ -63,6 +64,7 @@ const ALL = [
   { name: "for a lesson", part: lessons },
   { name: "play", part: playing },
   { name: "of one's own", part: ownLessons },
+  { name: "prediction", part: predictions },
   { name: "real Go", part: (/** @type {TestContext} */ t, /** @type {TestBrowser} */ browser) => realGo(t, browser, PAGE) },
   { name: "all schedules", part: searches },
   { name: "drawings", part: drawings },

@@ -80,6 +80,20 @@ async function author(hands, kind) {
   await hands.browser.run(`document.getElementById("lesson-name").focus()`);
 }
 
+// Before a run of a story, with the answer to what was asked before it.
+/**
+ * @param {Hands} hands
+ * @param {string} words
+ */
+async function asked(hands, words = "") {
+  await hands.story("send_on_closed");
+  await hands.browser.run(`location.hash = "#story=deadlock&ask${words}"`);
+  await hands.until("document.body.classList.contains('asking') && rewind.page.views.stories.name === 'deadlock' && document.getElementById('options').children.length > 4");
+  await hands.idle();
+  await hands.browser.run("document.querySelectorAll('#options button')[0].click()");
+  await hands.idle();
+}
+
 // In a frame of another page.
 /** @param {Hands} hands */
 async function frame(hands) {
@@ -96,6 +110,7 @@ const WIDE = [
   { name: "chosen step", show: chosen },
   { name: "empty picture", show: (hands) => hands.story("send_on_closed") },
   { name: "story", show: told },
+  { name: "prediction", show: asked },
   { name: "past state", show: past },
   { name: "exercise", show: (hands) => hands.story("untie_the_deadlock") },
   { name: "panic", show: async (hands) => (await hands.story("send_on_closed"), hands.perform("run 100")) },
@@ -121,6 +136,8 @@ export const SCENES = [
   { name: "making an exercise on a phone", ...PHONE, show: (hands) => author(hands, "exercise") },
   { name: "tablet", width: 820, height: 1180, show: past },
   { name: "zoom of 200 percent", width: 640, height: 360, show: chosen },
+  { name: "prediction on a phone", ...PHONE, show: asked },
+  { name: "prediction in a frame", width: 600, height: 400, show: (hands) => asked(hands, "&embed") },
   { name: "frame", width: 600, height: 400, show: frame },
   { name: "dark", width: 1280, height: 720, scheme: "dark", show: chosen },
   { name: "dark past state", width: 1280, height: 720, scheme: "dark", show: past },

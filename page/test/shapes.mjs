@@ -2,7 +2,7 @@
 
 // Runs in the page: of each part that is shown, its left, top, width and height.
 export function shapesOf() {
-  const PARTS = ["header", "#story", "#own", "#picture-tools", "#views", "#told", "#editor", "#start-bar", "#panel", "#tabs", "#matter", "#sentence", "#matter button:not([hidden])", "#picture-frame",
+  const PARTS = ["header", "#story", "#own", "#picture-tools", "#views", "#told", "#prediction", "#editor", "#start-bar", "#panel", "#tabs", "#matter", "#sentence", "#matter button:not([hidden])", "#picture-frame",
     "#picture .names", "#picture .heads", "#picture .lanes", "#picture .lines", "#overview", "#ghost-words", "#bar", "#time", "#next", "#moves", "#full", "#tour", "#help-dialog[open]", "#compare-dialog[open]", "#lesson-dialog[open]", ".menu:not([hidden])", ".refusal-note"];
   /** @type {{[part: string]: number[]}} */
   const found = {};

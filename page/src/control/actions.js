@@ -75,6 +75,7 @@ const ACTIONS = {
   own: ownProgram,
   next: nextOfStory,
   play: (page) => page.player.toggle(),
+  "ask-first": (page) => page.prediction.toggle(),
   "tell-it": nextOfStory,
   "run-it": run,
   "run-on": run,

@@ -11,6 +11,7 @@ import { Past } from "./past.js";
 import { Pointing } from "./pointing.js";
 import { refuse } from "./refusing.js";
 import { Player } from "../lessons/player.js";
+import { Prediction } from "../lessons/prediction.js";
 import { Tour } from "../lessons/tour.js";
 import { shownOf } from "../picture/shown.js";
 
@@ -56,6 +57,7 @@ export class Page {
     this.listeners = []; // told after each change of what is shown
     this.tour = new Tour(this);
     this.player = new Player(this);
+    this.prediction = new Prediction(this);
   }
 
   /**

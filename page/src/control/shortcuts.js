@@ -34,6 +34,7 @@ export function listenToKeys(page) {
     { keys: ["y"], says: "take again what was taken back", act: does("redo") },
     { keys: ["k"], says: "play by itself, or stop", act: does("play") },
     { keys: ["n"], says: "the next command of the story", act: does("next") },
+    { keys: ["q"], says: "be asked before each step of a story, or not", act: does("ask-first") },
     { keys: [",", "."], shown: ", and .", says: "look at the state one step before, or after", act: (/** @type {string} */ key) => look(page, key === "," ? -1 : 1) },
     { keys: ["v"], says: "presentation: picture and source alone, in large letters", act: does("present") },
     { keys: ["p"], says: "to the picture", act: () => toPicture(page) },

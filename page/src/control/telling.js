@@ -1,12 +1,15 @@
 // The next command of a story.
 
+// Gives it, and its reply; nothing where it could not be given.
 /** @param {import("./page.js").Page} page */
 export async function nextOfStory(page) {
   const { stories } = page.views;
   const line = stories.next;
-  if (line === undefined) return page.say("The story gives no more commands.");
-  if (page.busy || page.hindrance) return page.say(page.hindrance || "The page is busy: wait a moment.", "bad");
+  if (line === undefined) return page.say("The story gives no more commands."), null;
+  if (page.busy || page.hindrance) return page.say(page.hindrance || "The page is busy: wait a moment.", "bad"), null;
   const reply = await page.perform(line);
   if (reply) stories.take();
   page.showControls();
+  page.tell();
+  return reply;
 }
