@@ -280,9 +280,9 @@ def words_of_go() -> dict[str, str]:
 
 
 def client_words() -> str:
-    """The meaning of each code by section, and what Go says of faults and of a deadlock."""
+    """The meaning of each code by section, what Go says of faults and of a deadlock, and the version."""
     told = {section: {it.name: plain(it.means) for it in CODES[section]} for section in CODES if section}
-    return as_json({**told, "go": words_of_go()})
+    return as_json({**told, "go": words_of_go(), "program": {"version": TEXTS["version"]}})
 
 
 def page_words() -> str:

@@ -7,6 +7,7 @@ from typing import Optional
 
 with open(os.path.join(os.path.dirname(__file__), "words.json"), encoding="utf-8") as table:
     WORDS: dict[str, dict[str, str]] = json.load(table)
+VERSION = WORDS["program"]["version"]
 REFUSED_SOURCES = WORDS["sources"]
 REFUSED_COMMANDS = WORDS["replies"]
 # A fault in the words of Go, which has none for what is a limit of Rewind.

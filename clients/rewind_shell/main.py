@@ -16,7 +16,7 @@ from .completing import Completing
 from .interpreter import python_with
 from .interrupts import Interrupts
 from .reading import MISSING, CannotRead, FileReader, PlainReader, Reader, RichReader, has_rich_terminal
-from .saving import COMMANDS, saved_in
+from .saving import COMMANDS, saved_in, task_in
 from .shell import Shell, refusal_in_words
 from .terminal import Screen, error
 from .words import word_of
@@ -139,6 +139,9 @@ def take_saved(shell: Shell, script: Optional[str]) -> None:
     if script:
         shell.load_file(script)
     elif COMMANDS in shell.program.written:
+        task = task_in(shell.program.written)
+        if task:
+            shell.screen.say(task, "note")
         shell.take(saved_in(shell.program.written).commands, shell.path)
 
 

@@ -1,19 +1,27 @@
-"""The commands of a session, saved as a script as they are given."""
+"""The commands of a session, saved as they are given: as a script, or in one file with the source, as the page saves them.
+
+In the one file the script stands behind the source, and each of its lines is a comment. A line of a script that begins with `//` is
+no command: it says which version has saved it, and of an exercise of the page what its task is.
+"""
 from __future__ import annotations
 
 import hashlib
 import os
 import re
 import time
-from collections.abc import Sequence
+from collections.abc import Iterable, Sequence
 from typing import IO, NamedTuple, Optional
 
 from rewind_client.core import CHANGING, first_word
 from rewind_client.errors import RewindError
+from rewind_client.meanings import VERSION
 from rewind_client.program import Program
 
-# Before the commands that the page writes behind a source.
+# Between a source and the commands in one file.
 COMMANDS = b"\n// commands of Rewind:\n"
+ONE_FILE = ".go"
+# What the script of an exercise says of it, in the order of the page.
+OF_EXERCISE = re.compile(r"// (exercise|task|hint|goal|begins): ?(.*)$")
 HEADING = "// commands for"
 FIRST_LINE = re.compile(r"// commands for .*, SHA-256 ([0-9a-f]{64})$")
 CONTROL = re.compile("[\x00-\x1f\x7f]")
@@ -98,14 +106,43 @@ class Script:
 
 
 def write_script(path: str, commands: Sequence[str], program: Program) -> None:
-    """Writes commands to a file, a line each, behind a line that tells of which source they are; whole or not at all."""
+    """Writes commands to a file, whole or not at all: behind the source where the file is one of Go, else as a script."""
+    if os.path.exists(path) and os.path.exists(program.path) and os.path.samefile(path, program.path):
+        raise CannotSave(f"{path} is the source itself: name another file")
     made = path + ".new"
     try:
-        with open(made, "w", encoding="utf-8", errors="backslashreplace") as file:
-            file.write("".join(line + "\n" for line in [heading(program), *commands]))
+        with open(made, "wb") as file:
+            file.write(one_file(commands, program) if path.endswith(ONE_FILE) else script(commands, program))
         os.replace(made, path)
     except (OSError, ValueError) as fault:
         raise CannotSave(f"{path} cannot be written: {getattr(fault, 'strerror', None) or fault}") from None
+
+
+def script(commands: Sequence[str], program: Program) -> bytes:
+    """Commands, a line each, behind a line that tells of which source they are."""
+    return in_bytes(line + "\n" for line in [heading(program), *commands])
+
+
+def one_file(commands: Sequence[str], program: Program) -> bytes:
+    """The source, and behind it the version and the commands as comments; of an exercise of the page with its task."""
+    told = [f"// version: {VERSION}", *exercise_in(program.written)]
+    return source_part(program.written) + COMMANDS + in_bytes(f"// {line}\n" for line in [*told, *commands])
+
+
+def in_bytes(lines: Iterable[str]) -> bytes:
+    return "".join(lines).encode("utf-8", "backslashreplace")
+
+
+def exercise_in(text: bytes) -> list[str]:
+    """What a file of the page says of its exercise; nothing where it has none."""
+    told = [line for line in commented(text.partition(COMMANDS)[2]) if OF_EXERCISE.match(line)]
+    return told if any(line.startswith("// exercise:") for line in told) else []
+
+
+def task_in(text: bytes) -> str:
+    """The title and the task of an exercise of the page, in a line; nothing where the file has none."""
+    said = {found.group(1): found.group(2) for found in map(OF_EXERCISE.match, exercise_in(text)) if found}
+    return f"Exercise: {said['exercise']}. {said.get('task', '')}".strip() if said else ""
 
 
 def heading(program: Program) -> str:
@@ -135,14 +172,17 @@ class Saved(NamedTuple):
 
 
 def saved_in(text: bytes) -> Saved:
-    """What a script tells: a line for each command, or a source with the commands as comments behind it, as the page saves it."""
+    """What a script tells: a line for each command, or a source with the script as comments behind it."""
     source, mark, behind = text.partition(COMMANDS)
-    lines = lines_of(behind if mark else text)
-    if mark:
-        return Saved([line[2:].strip() for line in lines if line.startswith("//") and line[2:].strip()], digest(source))
+    lines = commented(behind) if mark else lines_of(text)
     found = FIRST_LINE.match(lines[0]) if lines else None
     commands = [line for line in lines if line.strip() and not line.startswith("//")]
-    return Saved(commands, found.group(1) if found else "")
+    return Saved(commands, digest(source) if mark else found.group(1) if found else "")
+
+
+def commented(text: bytes) -> list[str]:
+    """The lines of a script that stand in comments."""
+    return [line[2:].strip() for line in lines_of(text) if line.startswith("//")]
 
 
 def lines_of(text: bytes) -> list[str]:

@@ -106,8 +106,14 @@ MOVING = [
 ]
 SHELL = [
     Word("help", "h", "help [WORD]", "these words, one of them, or a code such as N3", most=1),
-    Word("save", "", "save FILE", "write the commands so far as a script for 'load' and 'rewind FILE < SCRIPT'"),
-    Word("load", "", "load FILE", "take the commands of a script, or of a source that the page has saved"),
+    Word(
+        "save",
+        "",
+        "save FILE",
+        "write the commands so far: to NAME.go with the source, as the page does; else as a script",
+        "The page and the shell open both. A script is also for 'rewind FILE < SCRIPT'.",
+    ),
+    Word("load", "", "load FILE", "take the commands of a script, or those behind a source in one file"),
     Word("restart", "", "restart", "begin the program anew; breakpoints stay", most=0),
     Word("quit", "q", "quit", "end the session; so do exit and Ctrl-D"),
 ]

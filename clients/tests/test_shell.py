@@ -320,6 +320,32 @@ def test_a_file_of_the_page(talk: Talk, tmp_path: Path) -> None:
     assert "another source" in talk(example("philosophers"), "load page.go").stdout
 
 
+def test_one_file(talk: Talk, tmp_path: Path, rewind: str) -> None:
+    """Under a name of Go, commands are saved behind their source. The core, the start and load take such a file."""
+    source = Path(example("lock_order")).read_text()
+    told = talk(example("lock_order"), "step g0", "run 4", "save session.go", "log").stdout
+    assert "2 commands are in session.go" in told
+    saved = (tmp_path / "session.go").read_text()
+    assert saved.startswith(source + "\n// commands of Rewind:\n// // version: ") and saved.endswith("\n// step g0\n// run 4\n")
+    begun = talk("session.go", "log").stdout
+    assert begun.startswith("2 commands of session.go were taken, 0 of them refused") and steps_in(begun) == steps_in(told) != []
+    assert steps_in(talk(example("lock_order"), "load session.go", "log").stdout) == steps_in(told)
+    assert subprocess.run([rewind, "--check", str(tmp_path / "session.go")], check=False).returncode == 0
+    again = talk("session.go", "step g0", "save session.go", "save other.go", "log")
+    assert "session.go is the source itself: name another file" in again.stdout and (tmp_path / "session.go").read_text() == saved
+    assert (tmp_path / "other.go").read_text().count("commands of Rewind") == 1
+
+
+def test_an_exercise_of_the_page(talk: Talk, tmp_path: Path) -> None:
+    source = Path(example("lock_order")).read_text()
+    script = ["// version: 1", "// exercise: Untie it", "// task: Let it end.", '// goal: {"end":"ended"}', "// begins: 1", "run 4"]
+    (tmp_path / "task.go").write_text(source + "\n// commands of Rewind:\n" + "".join(f"// {line}\n" for line in script))
+    told = talk("task.go", "run 2", "save solved.go").stdout
+    assert told.startswith("Exercise: Untie it. Let it end.\n1 command of task.go was taken, ")
+    saved = (tmp_path / "solved.go").read_text()
+    assert all(f"\n// {line}\n" in saved for line in script[1:]) and saved.endswith("// run 4\n// run 2\n")
+
+
 def test_a_file_with_blanks_in_its_name(talk: Talk, tmp_path: Path) -> None:
     talk(example("lock_order"), "step g0", "save my own session")
     assert (tmp_path / "my own session").exists()
