@@ -66,6 +66,7 @@ interface FormFault { form: string; first: number; last: number; fields: Fields 
 interface PointedView {
   pointed: string; causes: Map<string, number[]>; consequences: Map<string, number[]>; forbids: string[]; count: number;
   cycle: string[]; stuck: Set<string>; found: Set<string> | null; last: number; direct: boolean; isKept: boolean;
+  at: number; // the row of the last step of a state that is shown or played, or -1
 }
 
 interface Machine { program: WebAssembly.Module; script: string; suspends: boolean }

@@ -86,9 +86,11 @@ async function thePast(hands) {
   assert.deepEqual(await browser.run("rows"), [...before.keys()], "a run that is over is shown from its start, a state after another");
   assert.deepEqual([await browser.run("rewind.page.past.isOn"), await hands.ids()], [false, before], "until now, and nothing is changed");
   await browser.run("rewind.page.past.lookAt(12)");
+  assert.deepEqual(await hands.drawn(".at[data-step]"), [before[11]], "a cursor stands at the last step of the state that is shown");
   await press(hands);
   await ended(hands);
   assert.deepEqual(await browser.run("rows.slice(-4)"), [12, 13, 14, 15], "from a past state it goes on from there");
+  assert.deepEqual(await hands.drawn(".at[data-step]"), [], "the present has no cursor");
 }
 
 /** @param {Hands} hands */
@@ -96,7 +98,7 @@ async function stopped(hands) {
   const { browser } = hands;
   await hands.source(LOOP);
   await hands.key("k");
-  await hands.until("rewind.page.session.log.length > 2");
+  await hands.until("rewind.page.session.log.length > 2 && document.querySelectorAll('#picture .at[data-step]').length === 1");
   await hands.key("x");
   await ended(hands);
   const { length } = await hands.ids();

@@ -149,12 +149,19 @@ export class Pointing {
     const base = about ? { ...this.view, causes: isDirect ? this.directCauses(String(about?.id)) : this.view.causes } : NOTHING_POINTED;
     page.views.picture.mark({
       ...base, pointed: about?.id || this.sought, isKept: Boolean(this.pinned), forbids: this.forbids, count: about && !page.past.isOn ? about.consequences + 1 : 0,
-      cycle: page.past.isOn ? [] : page.cycle, stuck: page.past.isOn ? new Set() : page.stuck, found: this.found, last: page.past.isOn ? page.past.row : Infinity, direct: isDirect,
+      cycle: page.past.isOn ? [] : page.cycle, stuck: page.past.isOn ? new Set() : page.stuck, found: this.found, last: page.past.isOn ? page.past.row : Infinity, direct: isDirect, at: this.cursor,
     });
     page.views.overview.draw();
     const isOfText = page.session?.source === page.views.editor.text;
     page.views.editor.markChosen(isOfText ? note : undefined, true);
     page.views.chosen.show(page);
+  }
+
+  // The row behind which the state stands that is looked at, or played; -1 for the present.
+  get cursor() {
+    const { past, player } = this.page;
+    if (past.isOn) return past.row - 1;
+    return player.isOn && this.log ? this.log.length - 1 : -1;
   }
 
   // The steps that a step depends on directly: the one before it in its goroutine, and those at the tails of its edges.

@@ -48,8 +48,10 @@ export class Player {
 
   stop() {
     this.turn++;
+    if (!this.isOn) return;
     this.isOn = false;
     this.show();
+    this.page.pointing.draw();
   }
 
   show() {
@@ -66,7 +68,7 @@ export class Player {
     try {
       while (goesOn() && (await this.go())) await rest(this.pace());
     } finally {
-      if (turn === this.turn) this.stop();
+      if (turn === this.turn) this.stop(); // else somebody did, or plays anew
     }
   }
 

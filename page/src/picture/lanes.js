@@ -125,7 +125,7 @@ function drawStep(place, at, view) {
   const ring = view.forbids.includes(step.id) ? `<circle class="ring" cx="${x}" cy="${y}" r="10"/>` : "";
   const wash = `<rect class="wash" x="-4" y="${y - place.rowHeight / 2 + 1}" width="${place.lanes + 4000}" height="${place.rowHeight - 2}"/>`;
   return {
-    under: isWashed(step, view) ? `${group}>${wash}</g>` : "",
+    under: isWashed(step, view, place.rows.count(at)) ? `${group}>${wash}</g>` : "",
     over: `${group} data-mark="${step.id}">${drawMark(step.kind, x, y)}${ring}</g>`,
   };
 }

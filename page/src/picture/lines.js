@@ -66,7 +66,7 @@ function drawLine(place, at, view, describe, left) {
     text("kind", left + columns.statement, first, escaped(kind)), text("outcome", left + columns.outcome, second, came),
   ];
   const says = describe ? spoken(place, at, step, view, describe) : "";
-  return `<g class="${classesOf(step, view, place.rows.count(at))}"${says} data-step="${step.id}">${isWashed(step, view) ? wash : ""}${words.join("")}</g>`;
+  return `<g class="${classesOf(step, view, place.rows.count(at))}"${says} data-step="${step.id}">${isWashed(step, view, place.rows.count(at)) ? wash : ""}${words.join("")}</g>`;
 }
 
 // Who waits for whom in a cycle, below the last row.

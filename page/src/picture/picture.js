@@ -22,6 +22,7 @@ export const PICTURE_RULES = `
 .picture .stuck .mark{fill:var(--stuck-wash);stroke:var(--stuck);stroke-width:2.2}
 .picture .fault .mark{fill:var(--stuck);stroke:var(--stuck)}
 .picture .wash{fill:none}
+.picture .at .wash{fill:var(--here)}.picture .at .mark{stroke:var(--text);stroke-width:4}.picture .at .kind,.picture .at .number{font-weight:700;fill:var(--text)}
 .picture .cause .wash{fill:var(--cause-wash)}.picture .consequence .wash{fill:var(--consequence-wash)}.picture .found .wash{fill:var(--found)}
 .picture .cause .mark{fill:var(--cause);stroke:var(--cause)}
 .picture .consequence .mark{fill:var(--consequence);stroke:var(--consequence)}
@@ -38,12 +39,12 @@ export const PICTURE_RULES = `
 .picture .forbids .ring{fill:none;stroke:var(--stuck);stroke-width:2.5}
 @media (forced-colors:active){.picture .mark{stroke:CanvasText}.picture .pointed .mark{fill:Highlight;stroke:Highlight}.picture text,.picture tspan{fill:CanvasText}
 .picture .cause .mark,.picture .consequence .mark{stroke-width:3}.picture .edge,.picture .life{stroke:CanvasText}.picture .wash{fill:none!important}
-.picture .pointed.goes .wash{stroke:Highlight}}
+.picture .pointed.goes .wash,.picture .at .wash{stroke:Highlight}}
 `;
 
 /** @type {PointedView} */
 export const NOTHING_POINTED = {
-  pointed: "", causes: new Map(), consequences: new Map(), forbids: [], count: 0, cycle: [], stuck: new Set(), found: null, last: Infinity,
+  pointed: "", causes: new Map(), consequences: new Map(), forbids: [], count: 0, cycle: [], stuck: new Set(), found: null, last: Infinity, at: -1,
   direct: false, isKept: false,
 };
 
@@ -83,12 +84,22 @@ export function classesOf(step, view, count = 1) {
   if (view.found?.has(step.id)) classes.push("found");
   if (view.stuck.has(step.id)) classes.push("stuck");
   if (step.row >= view.last) classes.push("later");
+  if (isAt(step, view, count)) classes.push("at");
   return classes.filter((it) => it).join(" ");
 }
+
+// Whether the state that is shown, or played, is the one behind this row.
+/**
+ * @param {Step} step
+ * @param {PointedView} view
+ * @param {number} count the steps of its row
+ */
+const isAt = ({ row }, { at }, count) => at >= row && at < row + count;
 
 // Whether a row has a colour behind it.
 /**
  * @param {Step} step
  * @param {PointedView} view
+ * @param {number} count the steps of its row
  */
-export const isWashed = (step, view) => Boolean(sideOf(step, view) || view.found?.has(step.id) || (step.id === view.pointed && view.count && view.isKept));
+export const isWashed = (step, view, count = 1) => Boolean(isAt(step, view, count) || sideOf(step, view) || view.found?.has(step.id) || (step.id === view.pointed && view.count && view.isKept));
