@@ -38,7 +38,7 @@ func (n Note) String() string {
 	return text
 }
 
-// List collects notes. The same is told once of a place, and a place that is left out has no other note of its rule.
+// List collects notes. The same is told once of a place, and what is not carried once of a line.
 type List struct {
 	notes []Note
 	known map[Note]bool
@@ -47,11 +47,15 @@ type List struct {
 // Add puts a note into the list.
 func (l *List) Add(at token.Position, kind Kind, rule, what, advice string) {
 	note := Note{at.Line, at.Column, kind, rule, what, advice}
+	alike := note
+	if kind == Left {
+		alike.Column, alike.Advice = 0, ""
+	}
 	if l.known == nil {
 		l.known = map[Note]bool{}
 	}
-	if !l.known[note] {
-		l.known[note] = true
+	if !l.known[alike] {
+		l.known[alike] = true
 		l.notes = append(l.notes, note)
 	}
 }

@@ -18,6 +18,9 @@ func (f *function) called(it *ast.CallExpr) Value {
 
 // call translates a call, and gives its results.
 func (f *function) call(it *ast.CallExpr) []Value {
+	if speaker := f.spoken[it]; speaker != nil {
+		return f.speak(it, speaker)
+	}
 	fun := unparen(it.Fun)
 	if known := f.src.Info.Types[fun]; known.IsType() {
 		return []Value{f.conversion(it, known.Type)}
@@ -243,8 +246,11 @@ func (f *function) receiver(selector *ast.SelectorExpr, t types.Type, choice *ty
 		where = f.step(where, at, index, selector)
 		at = fieldType(at, index)
 	}
-	if _, ok := isTool(where.shape); ok || !isPointer(t) {
+	if _, ok := isTool(where.shape); ok {
 		return f.read(where)
+	}
+	if !isPointer(t) {
+		return f.copied(f.read(where), selector)
 	}
 	if ref, ok := where.shape.(Ref); ok {
 		return f.read(place{ref, where.code, where.cells})

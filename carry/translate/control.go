@@ -142,6 +142,10 @@ func (f *function) ranges(it *ast.RangeStmt, label string) {
 			f.rangeGrown(it, label, grow, where)
 			return
 		}
+		if list, ok := where.shape.(List); ok && it.Value == nil {
+			f.rangeOver(it, label, list, where, itoa(list.Len))
+			return
+		}
 	}
 	over := f.value(it.X)
 	if channel, ok := over.Shape.(Chan); ok {
@@ -223,7 +227,7 @@ func (f *function) nextElement(it *ast.RangeStmt, list List, over place, index V
 	}
 	found := f.lookedUp(list, over, index, len(list.Elem.leaves()))
 	stmt := &ast.AssignStmt{Lhs: []ast.Expr{it.Value}, Tok: it.Tok, TokPos: it.Pos()}
-	f.assignAll(stmt, stmt.Lhs, []Value{f.read(found)})
+	f.assignAll(stmt, stmt.Lhs, []Value{f.copied(f.read(found), it.Value)})
 }
 
 // branch is `break` or `continue`.

@@ -29,7 +29,7 @@ func (f *function) value(e ast.Expr) Value {
 	case *ast.CallExpr:
 		return f.called(it)
 	case *ast.SelectorExpr, *ast.IndexExpr, *ast.StarExpr:
-		return f.read(f.place(e))
+		return f.copied(f.read(f.place(e)), e)
 	case *ast.CompositeLit:
 		return f.literal(it)
 	case *ast.FuncLit:
@@ -49,6 +49,9 @@ func (f *function) constant(known types.TypeAndValue, node ast.Expr) Value {
 	case constant.Bool:
 		return single(Truth{}, known.Value.String(), false)
 	case constant.String:
+		if _, ok := literal(constant.StringVal(known.Value)); !ok {
+			f.refuse(node, "texts", "a text with control characters that is handed on is not carried", "leave them out")
+		}
 		return Value{Shape: Num{String}, Code: []string{itoa(f.texts.number(constant.StringVal(known.Value)))}, Binds: atom}
 	}
 	whole := constant.ToInt(known.Value)
@@ -69,7 +72,7 @@ func (f *function) constant(known types.TypeAndValue, node ast.Expr) Value {
 func (f *function) identifier(it *ast.Ident) Value {
 	switch object := f.object(it).(type) {
 	case *types.Var:
-		return f.read(f.variable(object, it))
+		return f.copied(f.read(f.variable(object, it)), it)
 	case *types.Func:
 		if known := f.declared[object]; known != nil {
 			return Value{Shape: Func{Body: known}, Binds: atom}
@@ -99,6 +102,9 @@ func (f *function) fit(value Value, shape Shape, node ast.Node) Value {
 		if wanted, ok := isTool(shape); ok && wanted == own {
 			return Value{Shape: shape, Code: value.Code, Binds: atom, Acts: value.Acts}
 		}
+	}
+	if f.isSurvey && strings.Contains(shape.key(), "[") {
+		panic(obstacle{}) // lengths are not known there
 	}
 	f.refuse(node, "types", "a value of another kind than before is not carried: "+value.Shape.key()+" for "+shape.key(), "give each variable one kind of value")
 	return Value{}

@@ -349,9 +349,32 @@ func (f *facts) noteMethod(it *ast.SelectorExpr) {
 		return
 	}
 	sign, ok := choice.Obj().Type().(*types.Signature)
-	if ok && sign.Recv() != nil && isPointer(sign.Recv().Type()) && !isPointer(f.typeOf(it.X)) && toolOf(f.typeOf(it.X)) == "" {
-		f.noteAddress(it.X)
+	if ok && sign.Recv() != nil && isPointer(sign.Recv().Type()) && toolOf(f.typeOf(it.X)) == "" {
+		path := choice.Index()
+		last := f.notePath(f.typeOf(it.X), path[:len(path)-1])
+		if !isPointer(f.typeOf(it.X)) && !isPointer(last) {
+			f.noteAddress(it.X)
+		}
 	}
+}
+
+// notePath notes the embedded fields through which a method is found whose receiver is a pointer, and gives the type of the last one.
+func (f *facts) notePath(t types.Type, path []int) types.Type {
+	for _, at := range path {
+		if pointer, ok := under(t).(*types.Pointer); ok {
+			t = pointer.Elem()
+		}
+		record, ok := under(t).(*types.Struct)
+		if !ok {
+			break
+		}
+		field := record.Field(at)
+		if !isPointer(field.Type()) && toolOf(field.Type()) == "" {
+			f.writtenFields[field] = true
+		}
+		t = field.Type()
+	}
+	return t
 }
 
 // findUses finds which variables each function uses from outside it.

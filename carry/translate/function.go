@@ -144,8 +144,14 @@ func (f *function) temporary(base string) string { return f.name(base) }
 func (f *function) results() []string {
 	var params []string
 	list := f.instance.body.sign.Results()
+	isWhole := true
 	for n := 0; n < list.Len(); n++ {
-		f.instance.results = append(f.instance.results, f.shapeOf(list.At(n).Type(), f.node()))
+		isWhole = f.attempt(f.node(), func() {
+			f.instance.results = append(f.instance.results, f.shapeOf(list.At(n).Type(), placeOf(list.At(n))))
+		}) && isWhole
+	}
+	if !isWhole {
+		panic(obstacle{})
 	}
 	for n, leaf := range f.resultLeaves() {
 		if n > 0 {
@@ -172,12 +178,7 @@ func (f *function) result() string {
 	return ""
 }
 
-func (f *function) node() ast.Node {
-	if f.instance.body.decl != nil {
-		return f.instance.body.decl.Name
-	}
-	return f.instance.body.lit
-}
+func (f *function) node() ast.Node { return placeOfBody(f.instance.body) }
 
 // translate writes the pieces of the function.
 func (f *function) translate() {
@@ -295,7 +296,7 @@ func (f *function) runDeferred() {
 func (f *function) attempt(node ast.Node, do func()) (done bool) {
 	defer func() {
 		fault := recover()
-		if _, ok := fault.(obstacle); fault != nil && !ok {
+		if _, ok := fault.(obstacle); fault != nil && !ok && !f.isSurvey {
 			f.told.Add(f.src.Fset.Position(node.Pos()), notes.Left, "statements", "this statement is not carried", "write it in a plainer form")
 		}
 	}()

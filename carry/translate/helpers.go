@@ -2,6 +2,7 @@ package translate
 
 import (
 	"fmt"
+	"strconv"
 	"strings"
 )
 
@@ -88,7 +89,7 @@ func chooseText(about string) string {
 	return "SELF() int {\n\tready, chosen := make(chan struct{}), 0\n\tclose(ready)\n\tselect {\n" + lines.String() + "\t}\n\treturn chosen\n}"
 }
 
-// toolText is the text of a helper for a tool; FAULT:x stands for the name of a fault, and HELP:x for that of another helper.
+// toolText is the text of a helper for a tool; <<x>> stands for the name of another helper, and <<error:x>> for the number of an error.
 func (p *program) toolText(kind string) string {
 	text, ok := toolTexts[kind]
 	if !ok {
@@ -100,7 +101,13 @@ func (p *program) toolText(kind string) string {
 			return strings.TrimSpace(text)
 		}
 		end := at + strings.Index(text[at:], ">>")
-		text = text[:at] + p.helper(text[at+2:end]) + text[end+2:]
+		name := text[at+2 : end]
+		if said := strings.TrimPrefix(name, "error:"); said != name {
+			name = itoa(p.errors.number(said))
+		} else {
+			name = p.helper(name)
+		}
+		text = text[:at] + name + text[end+2:]
 	}
 }
 
@@ -182,8 +189,11 @@ var toolTexts = map[string]string{
 }`,
 	"cond_broadcast": `SELF(lock chan struct{}, waiters chan chan struct{}) {
 	for waiting := len(waiters); waiting > 0; waiting-- {
-		called := <-waiters
-		called <- struct{}{}
+		select {
+		case called := <-waiters:
+			called <- struct{}{}
+		default:
+		}
 	}
 }`,
 	"atomic_add": `SELF(cell chan int, delta int) int {
@@ -237,7 +247,11 @@ var toolTexts = map[string]string{
 }`,
 	"run_ticker": `SELF(fired, stop chan struct{}) {
 	for len(stop) == 0 {
-		fired <- struct{}{}
+		select {
+		case fired <- struct{}{}:
+		case <-stop:
+			stop <- struct{}{}
+		}
 	}
 }`,
 	"stop_timer": `SELF(stop chan struct{}) bool {
@@ -247,6 +261,22 @@ var toolTexts = map[string]string{
 	default:
 	}
 	return false
+}`,
+	"reset_timer": `SELF(fired, stop chan struct{}) bool {
+	select {
+	case <-stop:
+		go <<run_timer>>(fired, stop)
+		return false
+	default:
+	}
+	return true
+}`,
+	"copy_lock": `SELF(lock chan struct{}) chan struct{} {
+	copied := make(chan struct{}, 1)
+	if len(lock) == 1 {
+		copied <- struct{}{}
+	}
+	return copied
 }`,
 	"cancel": `SELF(done chan struct{}, err chan int, reason int) {
 	before := <-err
@@ -268,14 +298,14 @@ var toolTexts = map[string]string{
 }`,
 	"group_wait": `SELF(count chan int, zero chan struct{}, first chan int, done chan struct{}, err chan int) int {
 	<<wait_group_wait>>(count, zero)
-	<<cancel>>(done, err, 1)
+	<<cancel>>(done, err, <<error:context canceled>>)
 	return <<load:int>>(first)
 }`,
 	"group_done": `SELF(count chan int, zero chan struct{}, first chan int, done chan struct{}, err chan int, failed int) {
 	before := <-first
 	if before == 0 && failed != 0 {
 		before = failed
-		<<cancel>>(done, err, 1)
+		<<cancel>>(done, err, <<error:context canceled>>)
 	}
 	first <- before
 	<<wait_group_add>>(count, zero, -1)
@@ -315,16 +345,19 @@ func (f *function) wrapper(fun Value, to callee, tool Tool) string {
 	return name
 }
 
-// printText is a function that prints a line with texts that are found by their numbers.
+// printText is a function that prints a line with texts that are found by their numbers, and slices by their lengths.
 func (p *program) printText(it print) string {
 	var params []string
 	var dynamic []int
 	for at, part := range it.items {
-		if part.value != nil {
-			params = append(params, fmt.Sprintf("part_%d %s", at, part.value.Shape.leaves()[0].Type))
-			if isText(part.value.Shape) {
-				dynamic = append(dynamic, at)
-			}
+		if part.value == nil {
+			continue
+		}
+		for n, leaf := range part.value.Shape.leaves() {
+			params = append(params, partName(part, at, n)+" "+leaf.Type)
+		}
+		if isText(part.value.Shape) || isGrow(part.value.Shape) {
+			dynamic = append(dynamic, at)
 		}
 	}
 	var text strings.Builder
@@ -334,30 +367,56 @@ func (p *program) printText(it print) string {
 	return text.String()
 }
 
+// partName is the parameter for a leaf of a part of a line.
+func partName(part item, at, leaf int) string {
+	if len(part.value.Shape.leaves()) == 1 {
+		return fmt.Sprintf("part_%d", at)
+	}
+	return fmt.Sprintf("part_%d_%d", at, leaf)
+}
+
 // printCases writes a case for each text that the first of some parts may be.
 func (p *program) printCases(text *strings.Builder, it print, dynamic []int, known map[int]string, indent string) {
 	if len(dynamic) == 0 {
 		fmt.Fprintf(text, "%sprintln(%s)\n", indent, strings.Join(p.printParts(it, known), ", "))
 		return
 	}
-	list := p.texts.list
-	if it.items[dynamic[0]].value.Shape.key() == "error" {
-		list = p.errors.list
-	}
-	for number, one := range list {
+	part := it.items[dynamic[0]]
+	for number, code := range p.casesOf(part, dynamic[0]) {
 		word := "} else if"
 		if number == 0 {
 			word = "if"
 		}
-		code, ok := literal(one)
-		if !ok {
-			code = `"?"`
-		}
 		known[dynamic[0]] = code
-		fmt.Fprintf(text, "%s%s part_%d == %d {\n", indent, word, dynamic[0], number)
+		fmt.Fprintf(text, "%s%s %s == %d {\n", indent, word, partName(part, dynamic[0], 0), number)
 		p.printCases(text, it, dynamic[1:], known, indent+"\t")
 	}
 	fmt.Fprintf(text, "%s}\n", indent)
+}
+
+// casesOf are what a part may be printed as, by its number or by its length.
+func (p *program) casesOf(part item, at int) []string {
+	var found []string
+	if isGrow(part.value.Shape) {
+		elements := ""
+		for n := 0; n <= mostGrown; n++ {
+			found = append(found, `"["`+elements+`, "]"`)
+			elements += ", " + partName(part, at, n+1)
+		}
+		return found
+	}
+	list := p.texts.list
+	if part.value.Shape.key() == "error" {
+		list = p.errors.list
+	}
+	for _, one := range list {
+		if part.isQuoted {
+			one = strconv.Quote(one)
+		}
+		code, _ := literal(one)
+		found = append(found, code)
+	}
+	return found
 }
 
 func (p *program) printParts(it print, known map[int]string) []string {
@@ -370,7 +429,7 @@ func (p *program) printParts(it print, known map[int]string) []string {
 		case known[at] != "":
 			parts = append(parts, known[at])
 		default:
-			parts = append(parts, fmt.Sprintf("part_%d", at))
+			parts = append(parts, partName(part, at, 0))
 		}
 	}
 	return parts

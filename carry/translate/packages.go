@@ -38,7 +38,7 @@ var packageCalls map[string]func(*function, *ast.CallExpr) []Value
 func init() {
 	packageCalls = map[string]func(*function, *ast.CallExpr) []Value{
 		"fmt.Println": prints, "log.Println": logs, "log.Print": logs, "fmt.Print": printsOpen,
-		"fmt.Printf": formats, "log.Printf": logsFormat, "log.SetFlags": nothing,
+		"fmt.Printf": formats, "log.Printf": logsFormat, "log.SetFlags": nothing, "log.SetPrefix": nothing,
 		"log.Fatal": fatal, "log.Fatalln": fatal, "log.Fatalf": fatalFormat,
 		"fmt.Errorf": newError, "errors.New": newError, "errors.Is": isOfError,
 		"time.Sleep": sleeps, "time.After": after, "time.Tick": tick, "time.NewTimer": newTimer, "time.NewTicker": newTicker,
@@ -66,14 +66,24 @@ func prints(f *function, it *ast.CallExpr) []Value {
 }
 
 func printsOpen(f *function, it *ast.CallExpr) []Value {
-	f.change(it, "printing", "what Print writes is a line of its own")
-	f.line(it, f.items(it.Args))
+	printed := lines(f.items(it.Args, ""))
+	if last := len(printed) - 1; len(printed[last]) == 0 && last > 0 {
+		printed = printed[:last]
+		f.change(it, "printing", "println sets its values apart by blanks")
+	} else {
+		f.change(it, "printing", "what Print writes is a line of its own")
+	}
+	for _, line := range printed {
+		f.line(it, line)
+	}
 	return nil
 }
 
 func logs(f *function, it *ast.CallExpr) []Value {
 	f.change(it, "printing", "what log writes is a line of the console, without the time")
-	f.line(it, f.items(it.Args))
+	for _, line := range lines(f.items(it.Args, "")) {
+		f.line(it, line)
+	}
 	return nil
 }
 

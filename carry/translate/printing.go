@@ -3,16 +3,20 @@ package translate
 import (
 	"go/ast"
 	"go/constant"
+	"go/types"
+	"strconv"
 	"strings"
+	"time"
 )
 
 // An item is a part of a printed line: a text that is known, or a value.
 type item struct {
-	text  string
-	value *Value
+	text     string
+	value    *Value
+	isQuoted bool // whether a text stands in quotes, as %q writes it
 }
 
-// A print is a line with texts that are not known before: a function of its own finds them by their numbers.
+// A print is a line with parts that are not known before: a function of its own finds texts by their numbers, and slices by their lengths.
 type print struct {
 	name  string
 	items []item
@@ -27,7 +31,9 @@ func (f *function) print(it *ast.CallExpr, args []ast.Expr) {
 		}
 	}
 	f.carry(it, "printing", "a line of println, with its values")
-	f.line(it, f.items(args))
+	for _, line := range lines(f.items(args, "")) {
+		f.line(it, line)
+	}
 }
 
 // sprintf is the call of fmt.Sprintf that an argument is, if it is one.
@@ -43,51 +49,92 @@ func (f *function) sprintf(e ast.Expr) *ast.CallExpr {
 	return call
 }
 
-func (f *function) items(args []ast.Expr) []item {
-	var found []item
+// items are the parts that values are printed as, a list for each. The verbs are those of a format, one for each value; without a
+// format all are as by %v.
+func (f *function) items(args []ast.Expr, verbs string) [][]item {
+	found := make([][]item, len(args))
 	var dynamic []ast.Expr
 	var places []int
-	for _, e := range args {
-		if known := f.src.Info.Types[e]; known.Value != nil && known.Value.Kind() == constant.String {
-			found = append(found, item{text: constant.StringVal(known.Value)})
+	for at, e := range args {
+		verb := verbAt(verbs, at)
+		known, speaker := f.src.Info.Types[e], f.speakerOf(e, verb)
+		if known.Value != nil && known.Value.Kind() == constant.String && speaker == nil {
+			found[at] = []item{{text: constant.StringVal(known.Value)}}
+			if verb == 'q' {
+				found[at][0].text = strconv.Quote(found[at][0].text)
+			}
 			continue
 		}
-		places, dynamic = append(places, len(found)), append(dynamic, e)
-		found = append(found, item{})
+		places = append(places, at)
+		dynamic = append(dynamic, f.speaking(e, speaker))
 	}
 	values := f.arguments(dynamic)
 	if len(values) != len(dynamic) {
-		return f.valueItems(dynamic[0], values)
+		return f.itemsOfAll(dynamic[0], values)
 	}
 	for at, value := range values {
-		f.checkPrintable(dynamic[at], value)
-		one := value
-		found[places[at]].value = &one
+		found[places[at]] = f.itemsOf(args[places[at]], value, verbAt(verbs, places[at]))
 	}
 	return found
 }
 
-func (f *function) valueItems(node ast.Node, values []Value) []item {
-	var found []item
-	for at := range values {
-		f.checkPrintable(node, values[at])
-		found = append(found, item{value: &values[at]})
+func verbAt(verbs string, at int) byte {
+	if at < len(verbs) {
+		return verbs[at]
+	}
+	return 'v'
+}
+
+// itemsOfAll are the parts of all results of a call.
+func (f *function) itemsOfAll(call ast.Expr, values []Value) [][]item {
+	var found [][]item
+	results, _ := f.typeOf(call).(*types.Tuple)
+	for at, value := range values {
+		found = append(found, f.parts(call, value, results.At(at).Type(), 'v', 0))
 	}
 	return found
 }
 
-func (f *function) checkPrintable(node ast.Node, value Value) {
-	switch value.Shape.(type) {
-	case Num, Truth:
-		if e, ok := node.(ast.Expr); ok && fullName(f.typeOf(e)) == "time.Duration" {
-			f.change(node, "printing", "a length of time is printed as its nanoseconds")
+func (f *function) itemsOf(e ast.Expr, value Value, verb byte) []item {
+	t := f.typeOf(e)
+	if text, ok := value.Shape.(Num); ok && text.Text != Plain {
+		return []item{{value: &value, isQuoted: verb == 'q'}}
+	}
+	if fullName(t) == "time.Duration" {
+		if known := f.src.Info.Types[e].Value; known != nil {
+			n, _ := constant.Int64Val(known)
+			return []item{{text: time.Duration(n).String()}}
 		}
-		return
+		f.change(e, "printing", "a length of time is printed as its nanoseconds")
 	}
-	f.refuse(node, "printing", "only numbers, truth values and texts are printed", "print the fields one after another")
+	return f.parts(e, value, t, verb, 0)
 }
 
-// line writes a line. One with texts that are not known is a call of a function that finds them.
+// lines are the lines that texts with line breaks are printed on.
+func lines(groups [][]item) [][]item {
+	found := [][]item{nil}
+	for _, group := range groups {
+		for _, it := range group {
+			texts := []string{it.text}
+			if it.value == nil {
+				texts = strings.Split(it.text, "\n")
+			}
+			for at, text := range texts {
+				if at > 0 {
+					found = append(found, nil)
+				}
+				if last := &found[len(found)-1]; it.value != nil {
+					*last = append(*last, it)
+				} else if text != "" || len(texts) == 1 {
+					*last = append(*last, item{text: text})
+				}
+			}
+		}
+	}
+	return found
+}
+
+// line writes a line. One with parts that are not known before is a call of a function that finds them.
 func (f *function) line(node ast.Node, items []item) {
 	var parts, given []string
 	dynamic := 0
@@ -96,17 +143,17 @@ func (f *function) line(node ast.Node, items []item) {
 			parts = append(parts, f.quoted(node, it.text))
 			continue
 		}
-		if isText(it.value.Shape) {
+		if isText(it.value.Shape) || isGrow(it.value.Shape) {
 			dynamic++
 		}
-		parts, given = append(parts, it.value.one()), append(given, it.value.one())
+		parts, given = append(parts, it.value.Code...), append(given, it.value.Code...)
 	}
 	if dynamic == 0 {
 		f.emit("println(" + strings.Join(parts, ", ") + ")")
 		return
 	}
-	if dynamic > 2 {
-		f.refuse(node, "texts", "a line with more than two texts that are not known before is not carried", "print them on lines of their own")
+	if dynamic > 3 {
+		f.refuse(node, "texts", "a line with more than three texts that are not known before is not carried", "print them on lines of their own")
 	}
 	f.carry(node, "texts", "a text is a number, and is printed as its text")
 	name := f.program.name("print_line")
@@ -123,7 +170,7 @@ func isText(shape Shape) bool {
 func (f *function) quoted(node ast.Node, text string) string {
 	code, ok := literal(text)
 	if !ok {
-		f.refuse(node, "texts", "a text with control characters is not carried", "leave them out, and print lines one by one")
+		f.refuse(node, "texts", "a text with control characters is not carried", "leave them out")
 	}
 	return code
 }
@@ -153,35 +200,60 @@ func (f *function) format(it *ast.CallExpr, args []ast.Expr) {
 	if known.Value == nil {
 		f.refuse(it, "printing", "a format that is not constant is not carried", "write the format where it is used")
 	}
-	values := f.items(args[1:])
-	lines, exact := f.formatted(it, constant.StringVal(known.Value), values)
+	text := constant.StringVal(known.Value)
+	printed, exact := f.formatted(it, text, f.items(args[1:], verbsOf(text)))
 	if exact {
 		f.carry(it, "printing", "a line of println, with its values")
 	} else {
 		f.change(it, "printing", "println sets its values apart by blanks, and each line by itself")
 	}
-	for _, line := range lines {
-		f.line(it, line)
+	for _, line := range printed {
+		for _, one := range lines([][]item{line}) {
+			f.line(it, one)
+		}
 	}
 }
 
+// verbsOf are the verbs of a format, a letter for each value.
+func verbsOf(format string) string {
+	var found strings.Builder
+	for at := 0; at < len(format); at++ {
+		if format[at] != '%' {
+			continue
+		}
+		rest := strings.TrimLeft(format[at+1:], flags)
+		if rest == "" {
+			break
+		}
+		at = len(format) - len(rest)
+		if rest[0] != '%' {
+			isNamed := rest[0] == 'v' && strings.HasSuffix(format[:at], "+")
+			found.WriteByte(map[bool]byte{true: '+', false: rest[0]}[isNamed])
+		}
+	}
+	return found.String()
+}
+
+// What may stand between a percent sign and its verb.
+const flags = "0123456789-+# ."
+
 // formatted are the lines that a format gives, and whether println writes them as Printf does.
-func (f *function) formatted(node ast.Node, format string, values []item) ([][]item, bool) {
+func (f *function) formatted(node ast.Node, format string, values [][]item) ([][]item, bool) {
 	exact := strings.HasSuffix(format, "\n")
-	var lines [][]item
+	var found [][]item
 	next := 0
 	for _, text := range strings.Split(strings.TrimSuffix(format, "\n"), "\n") {
 		line, isExact := f.formattedLine(node, text, values, &next)
 		exact = exact && isExact
-		lines = append(lines, line)
+		found = append(found, line)
 	}
 	if next != len(values) {
 		f.refuse(node, "printing", "the format does not fit the values", "")
 	}
-	return lines, exact
+	return found, exact
 }
 
-func (f *function) formattedLine(node ast.Node, text string, values []item, next *int) ([]item, bool) {
+func (f *function) formattedLine(node ast.Node, text string, values [][]item, next *int) ([]item, bool) {
 	var line []item
 	var open strings.Builder
 	exact, isAfterValue := true, false
@@ -205,11 +277,11 @@ func (f *function) formattedLine(node ast.Node, text string, values []item, next
 			open.WriteByte(text[at])
 			continue
 		}
-		verb := strings.TrimLeft(text[at+1:], "0123456789-+# .")
+		verb := strings.TrimLeft(text[at+1:], flags)
 		width := len(text) - at - len(verb)
 		exact = exact && width == 1
-		if verb == "" || !strings.ContainsRune("dvstq%wxT", rune(verb[0])) || verb[0] == 'x' || verb[0] == 'T' || verb[0] == 'q' {
-			f.refuse(node, "printing", "this verb of a format is not carried", "use %d, %v, %s or %t")
+		if verb == "" || !strings.ContainsRune("dvstq%w", rune(verb[0])) {
+			f.refuse(node, "printing", "this verb of a format is not carried", "use %d, %v, %s, %q or %t")
 		}
 		at += width
 		if verb[0] == '%' {
@@ -220,7 +292,8 @@ func (f *function) formattedLine(node ast.Node, text string, values []item, next
 			f.refuse(node, "printing", "the format does not fit the values", "")
 		}
 		flush(true)
-		line = append(line, values[*next])
+		line = append(line, values[*next]...)
+		exact = exact && len(values[*next]) == 1
 		isAfterValue = true
 		*next++
 	}

@@ -45,9 +45,14 @@ type program struct {
 	errors      table
 	prints      []print
 	globals     map[types.Object]*binding
-	bad         map[types.Object]bool // variables whose declaration was not carried
-	records     map[string]bool       // types that are being read, so that a type that holds itself ends
-	needsCheck  bool                  // whether a pointer may be nil
+	spoken      map[*ast.CallExpr]*body // calls of methods that say what is printed
+	done        map[*body]bool          // functions that were translated
+	nesting     int                     // of functions that are translated for a call in another one
+	isExhausted bool                    // whether the functions nest too deeply
+	isSurvey    bool                    // whether functions are translated for the notes alone
+	bad         map[types.Object]bool   // variables whose declaration was not carried
+	records     map[string]bool         // types that are being read, so that a type that holds itself ends
+	needsCheck  bool                    // whether a pointer may be nil
 }
 
 // A table has the texts that stand behind numbers; the first is that of 0.
@@ -83,6 +88,7 @@ func Program(src *source.Source, options Options, told *notes.List) *Result {
 	p := &program{
 		facts: factsOf(src), options: options, told: told, names: map[string]bool{}, locals: map[string]bool{}, instances: map[string]*instance{},
 		helpers: map[string]string{}, errorPlaces: map[ast.Node]int{}, globals: map[types.Object]*binding{}, bad: map[types.Object]bool{}, records: map[string]bool{},
+		spoken: map[*ast.CallExpr]*body{}, done: map[*body]bool{},
 	}
 	p.texts.number("")
 	p.errors.fresh("<nil>")
@@ -102,12 +108,23 @@ func Program(src *source.Source, options Options, told *notes.List) *Result {
 		}
 		return &Result{}
 	}
-	p.instance(main, nil, nil)
+	p.attemptMain(main)
 	if !told.IsCarried() {
+		p.survey(main)
 		return &Result{}
 	}
 	p.tellUnused()
 	return p.write()
+}
+
+// attemptMain translates `main`, and with it all that it calls.
+func (p *program) attemptMain(main *body) {
+	defer func() {
+		if fault := recover(); fault != nil && fault != (obstacle{}) {
+			p.leave(main.decl.Name, "statements", "this program is not carried", "write it in a plainer form")
+		}
+	}()
+	p.instance(main, nil, nil)
 }
 
 func (p *program) main() *body {
@@ -206,6 +223,8 @@ func (p *program) instance(it *body, arguments, held []Shape) *instance {
 	if found := p.instances[key]; found != nil {
 		return found
 	}
+	p.nest(it)
+	defer func() { p.nesting-- }()
 	found := &instance{body: it, again: it.lit != nil, globals: it.globals}
 	for _, shape := range append(append([]Shape{}, arguments...), held...) {
 		found.globals = globalsIn(shape, found.globals)
@@ -218,7 +237,33 @@ func (p *program) instance(it *body, arguments, held []Shape) *instance {
 	f := newFunction(p, found, arguments, held)
 	p.written = append(p.written, found)
 	f.translate()
+	p.done[it] = true
 	return found
+}
+
+const mostNested, mostInstances = 100, 2000
+
+// nest refuses functions that nest without end, as those that call themselves with another function each time.
+func (p *program) nest(it *body) {
+	p.nesting++
+	if p.nesting > mostNested || len(p.instances) > mostInstances {
+		if !p.isExhausted {
+			p.leave(placeOfBody(it), "functions", it.name+" calls itself with other functions or slices each time, which is not carried",
+				"hand the same function on, and a slice of one length")
+		}
+		p.isExhausted = true
+	}
+	if p.isExhausted {
+		p.nesting--
+		panic(obstacle{})
+	}
+}
+
+func placeOfBody(it *body) ast.Node {
+	if it.decl != nil {
+		return it.decl.Name
+	}
+	return it.lit
 }
 
 // globalsIn adds the variables of the package that functions in a shape need.

@@ -120,13 +120,19 @@ func (f *function) record(t types.Type, it *types.Struct, node ast.Node) Shape {
 		}
 	}
 	found := Record{Name: name}
+	isWhole := true
 	for at := 0; at < it.NumFields(); at++ {
 		field := it.Field(at)
-		shape := f.grows(field, node)
-		if shape == nil {
-			shape = f.shapeOf(field.Type(), node)
-		}
-		found.Fields = append(found.Fields, Field{field.Name(), shape, !f.writtenFields[field]})
+		isWhole = f.attempt(node, func() {
+			shape := f.grows(field, placeOf(field))
+			if shape == nil {
+				shape = f.shapeOf(field.Type(), placeOf(field))
+			}
+			found.Fields = append(found.Fields, Field{field.Name(), shape, !f.writtenFields[field]})
+		}) && isWhole
+	}
+	if !isWhole {
+		panic(obstacle{})
 	}
 	return found
 }
