@@ -197,6 +197,16 @@ func (s *Source) counted(loop *ast.RangeStmt) *ast.ForStmt {
 	return counted
 }
 
+// Uses says whether the program uses a function of a package.
+func (s *Source) Uses(path, name string) bool {
+	for _, it := range s.Info.Uses {
+		if it.Name() == name && it.Pkg() != nil && it.Pkg().Path() == path {
+			return true
+		}
+	}
+	return false
+}
+
 // Check says whether Go accepts a program without packages.
 func Check(text string) error {
 	fset := token.NewFileSet()

@@ -253,7 +253,7 @@ func (f *function) receiver(selector *ast.SelectorExpr, t types.Type, choice *ty
 		return f.copied(f.read(where), selector)
 	}
 	if ref, ok := where.shape.(Ref); ok {
-		return f.read(place{ref, where.code, where.cells})
+		return f.read(place{shape: ref, code: where.code, cells: where.cells})
 	}
 	return Value{Shape: Ref{where.shape}, Code: where.code, Binds: atom}
 }
@@ -363,15 +363,36 @@ func (f *function) staticInt(e ast.Expr) *int {
 
 // panics calls a function that stops the program, and is named after the text.
 func (f *function) panics(it *ast.CallExpr) {
-	value := f.src.Info.Types[it.Args[0]]
-	text := "panic"
-	if value.Value != nil {
-		text = strings.Trim(value.Value.ExactString(), `"`)
-	} else {
-		f.value(it.Args[0])
+	text, values := "panic", it.Args
+	if made := f.madeText(it.Args[0]); made != nil {
+		values = made.Args
 	}
+	if value := f.src.Info.Types[values[0]]; value.Value != nil {
+		text, values = strings.Trim(value.Value.ExactString(), `"`), values[1:]
+	}
+	f.all(values)
 	f.change(it, "panic", "a panic is a fault: a call of a function named after it closes a nil channel; what is deferred is not run")
-	f.emit(f.fault("panic_"+words(text)) + "()")
+	f.emit(f.fault(strings.TrimSuffix("panic_"+words(text), "_")) + "()")
+}
+
+// madeText is the call that an argument is, if it makes a text or an error of values by a constant format.
+func (f *function) madeText(e ast.Expr) *ast.CallExpr {
+	call, ok := unparen(e).(*ast.CallExpr)
+	if !ok {
+		return nil
+	}
+	selector, ok := call.Fun.(*ast.SelectorExpr)
+	if !ok || f.src.Info.Uses[selector.Sel] == nil {
+		return nil
+	}
+	object := f.src.Info.Uses[selector.Sel]
+	switch object.Name() {
+	case "Sprintf", "Sprint", "Errorf", "New":
+		if pkg := object.Pkg(); pkg != nil && (pkg.Path() == "fmt" || pkg.Path() == "errors") {
+			return call
+		}
+	}
+	return nil
 }
 
 // words makes a name of a text.

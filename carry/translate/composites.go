@@ -10,6 +10,9 @@ func (f *function) parts(node ast.Node, value Value, t types.Type, verb byte, de
 	if depth > 0 && f.speaker(t) != nil {
 		f.refuse(node, "printing", "a part that has a method String or Error is not printed", "print the fields one after another")
 	}
+	if fullName(t) == "time.Time" {
+		f.refuse(node, "time", "a moment of time is not printed", "there is no clock: leave it out")
+	}
 	switch it := value.Shape.(type) {
 	case Num, Truth:
 		return []item{{value: &value}}
@@ -20,7 +23,7 @@ func (f *function) parts(node ast.Node, value Value, t types.Type, verb byte, de
 	case List:
 		return f.listParts(node, value, it, t, verb, depth)
 	case Grow:
-		if it.Elem.key() == "int" || it.Elem.key() == "bool" {
+		if !it.IsQueue && (it.Elem.key() == "int" || it.Elem.key() == "bool") {
 			f.change(node, "printing", "println sets its values apart by blanks")
 			return []item{{value: &value}}
 		}

@@ -67,12 +67,22 @@ func (f *function) labelled(label string) {
 
 func (f *function) labelOf(label string) string { return plain(label) }
 
+// loopLabel writes the label of a loop. One that has none gets one, which is dropped where no jump names it.
+func (f *function) loopLabel(label string) string {
+	if label == "" {
+		f.loops++
+		label = "loop_" + itoa(f.loops)
+	}
+	f.labelled(label)
+	return label
+}
+
 func (f *function) loop(it *ast.ForStmt, label string) {
 	if x := f.src.Counted[it]; x != nil {
 		f.told.Add(f.src.Fset.Position(it.Pos()), "carried", "range-number", "a loop over a number is a loop with three parts", "")
 	}
 	init := f.header(it.Init)
-	f.labelled(label)
+	label = f.loopLabel(label)
 	before := len(f.instance.pieces)
 	condition := ""
 	if it.Cond != nil {
@@ -165,11 +175,11 @@ func (f *function) ranges(it *ast.RangeStmt, label string) {
 	if isRef {
 		cells = Ref{list}.cells()
 	}
-	f.rangeOver(it, label, list, place{list, over.Code, cells}, itoa(list.Len))
+	f.rangeOver(it, label, list, place{shape: list, code: over.Code, cells: cells}, itoa(list.Len))
 }
 
 func (f *function) rangeChannel(it *ast.RangeStmt, label string, channel Chan, over Value) {
-	f.labelled(label)
+	label = f.loopLabel(label)
 	code := over.one()
 	name, ok := it.Key.(*ast.Ident)
 	if it.Key == nil || ok && name.Name == "_" {
@@ -198,7 +208,7 @@ func (f *function) rangeOver(it *ast.RangeStmt, label string, list List, over pl
 		delete(f.names, index)
 		index = f.name(key.Name)
 	}
-	f.labelled(label)
+	label = f.loopLabel(label)
 	f.open("for " + index + " := 0; " + index + " < " + end + "; " + index + "++ {")
 	counted := single(Num{}, index, false)
 	if key, ok := it.Key.(*ast.Ident); ok && key.Name != "_" {
@@ -257,9 +267,6 @@ func (f *function) branch(it *ast.BranchStmt) {
 func (f *function) jump(tok token.Token, at int) string {
 	for _, inner := range f.breaks[at+1:] {
 		if inner.isSwitch && tok == token.CONTINUE {
-			if f.breaks[at].out == "" {
-				f.refuse(&ast.Ident{NamePos: f.at}, "switch", "continue within a switch that has a break is not carried", "give the loop a label, and continue that")
-			}
 			return tok.String() + " " + f.breaks[at].out
 		}
 	}
@@ -346,7 +353,7 @@ func (f *function) cases(it *ast.SwitchStmt, tag Value) {
 		default:
 			f.turn("} else if " + condition + " {")
 		}
-		f.caseBody(one)
+		f.caseBody(it, one)
 	}
 	if last != nil {
 		f.at = last.Pos()
@@ -356,7 +363,7 @@ func (f *function) cases(it *ast.SwitchStmt, tag Value) {
 		} else {
 			f.turn("} else {")
 		}
-		f.caseBody(last)
+		f.caseBody(it, last)
 	}
 	f.at = it.Body.Rbrace
 	for ; opened > 0; opened-- {
@@ -364,13 +371,25 @@ func (f *function) cases(it *ast.SwitchStmt, tag Value) {
 	}
 }
 
-func (f *function) caseBody(one *ast.CaseClause) {
-	for _, stmt := range one.Body {
-		if jump, ok := stmt.(*ast.BranchStmt); ok && jump.Tok == token.FALLTHROUGH {
-			f.refuse(stmt, "switch", "fallthrough is not carried", "write the statements twice, or call a function")
+// caseBody writes the statements of a case. Where it falls through, those of the next one stand behind them.
+func (f *function) caseBody(it *ast.SwitchStmt, one *ast.CaseClause) {
+	last := len(one.Body) - 1
+	jump, ok := (*ast.BranchStmt)(nil), false
+	if last >= 0 {
+		jump, ok = one.Body[last].(*ast.BranchStmt)
+	}
+	if !ok || jump.Tok != token.FALLTHROUGH {
+		f.block(one.Body)
+		return
+	}
+	f.open("{")
+	f.block(one.Body[:last])
+	f.close()
+	for at, stmt := range it.Body.List {
+		if stmt == one {
+			f.caseBody(it, it.Body.List[at+1].(*ast.CaseClause))
 		}
 	}
-	f.block(one.Body)
 }
 
 func (f *function) condition(it *ast.SwitchStmt, one *ast.CaseClause, tag Value) string {

@@ -164,7 +164,7 @@ func (f *function) zero(shape Shape) Value {
 		}
 	case Grow:
 		part := f.zero(it.room())
-		found.Code, found.Acts = append([]string{"0"}, part.Code...), part.Acts
+		found.Code, found.Acts = append(it.empty("0"), part.Code...), part.Acts
 	default:
 		if _, ok := shape.(Ref); ok {
 			f.needsCheck = true
@@ -483,7 +483,7 @@ func (f *function) slice(it *ast.SliceExpr) Value {
 		f.refuse(it, "slices", "a part of a slice is not carried, but between constant bounds", "write the loop over the indices")
 	}
 	width := len(list.Elem.leaves())
-	part := place{List{high - low, list.Elem}, where.code[low*width : high*width], where.cells[low*width : high*width]}
+	part := place{shape: List{high - low, list.Elem}, code: where.code[low*width : high*width], cells: where.cells[low*width : high*width]}
 	for _, isCell := range part.cells {
 		if isCell {
 			return Value{Shape: Ref{part.shape}, Code: part.code, Binds: atom}

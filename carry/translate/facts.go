@@ -37,6 +37,7 @@ type facts struct {
 	slices        map[string]bool           // types of elements of slices to which something assigns
 	initial       map[types.Object]ast.Expr // of a variable that is never assigned to, what it is declared with
 	grown         map[types.Object]bool     // variables and fields to which something is appended
+	queued        map[types.Object]bool     // those of them from whose beginning elements are taken
 }
 
 func factsOf(src *source.Source) *facts {
@@ -44,7 +45,7 @@ func factsOf(src *source.Source) *facts {
 		src: src, bodies: map[ast.Node]*body{}, declared: map[types.Object]*body{}, assigned: map[types.Object]bool{},
 		addressed: map[types.Object]bool{}, captured: map[types.Object]bool{}, turning: map[types.Object]bool{},
 		indexed: map[types.Object]bool{}, writtenFields: map[*types.Var]bool{}, slices: map[string]bool{},
-		initial: map[types.Object]ast.Expr{}, grown: map[types.Object]bool{},
+		initial: map[types.Object]ast.Expr{}, grown: map[types.Object]bool{}, queued: map[types.Object]bool{},
 	}
 	f.findBodies()
 	f.findLoops()

@@ -48,6 +48,7 @@ type function struct {
 	depth    int // of blocks
 	breaks   []target
 	at       token.Pos // of the statement that is translated
+	loops    int       // that have no label in the source
 	heading  string
 }
 

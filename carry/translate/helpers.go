@@ -318,7 +318,7 @@ func (f *function) wrapper(fun Value, to callee, tool Tool) string {
 	if name, ok := f.helpers[wanted]; ok {
 		return name
 	}
-	name := f.program.name(to.instance.name + "_in_group")
+	name := f.program.name(to.instance.name + map[bool]string{true: "_later", false: "_in_group"}[tool == Timer])
 	f.helpers[wanted] = name
 	var params, own, given []string
 	for at, leaf := range tool.leaves() {
@@ -336,7 +336,13 @@ func (f *function) wrapper(fun Value, to callee, tool Tool) string {
 		params = append(params, given[at]+" "+leaf.Type)
 	}
 	call := to.instance.name + "(" + commas(given) + ")"
-	body := "\t" + call + "\n\t" + f.helper("wait_group_add") + "(" + commas(own) + ", -1)\n"
+	body := ""
+	if tool == WaitGroup {
+		body = "\t" + call + "\n\t" + f.helper("wait_group_add") + "(" + commas(own) + ", -1)\n"
+	}
+	if tool == Timer {
+		body = "\tselect {\n\tcase " + own[1] + " <- struct{}{}:\n\t\t" + call + "\n\tdefault:\n\t}\n"
+	}
 	if tool == Group {
 		body = "\tfailed := " + call + "\n\t" + f.helper("group_done") + "(" + commas(own) + ", failed)\n"
 	}

@@ -20,7 +20,7 @@ func (f *function) packageVariable(object *types.Var, node ast.Node) place {
 }
 
 func (f *function) known(text string) place {
-	return place{Num{Error}, []string{itoa(f.errors.number(text))}, []bool{false}}
+	return place{shape: Num{Error}, code: []string{itoa(f.errors.number(text))}, cells: []bool{false}}
 }
 
 // packageCall is a call of a function of a known package.
@@ -38,11 +38,15 @@ var packageCalls map[string]func(*function, *ast.CallExpr) []Value
 func init() {
 	packageCalls = map[string]func(*function, *ast.CallExpr) []Value{
 		"fmt.Println": prints, "log.Println": logs, "log.Print": logs, "fmt.Print": printsOpen,
-		"fmt.Printf": formats, "log.Printf": logsFormat, "log.SetFlags": nothing, "log.SetPrefix": nothing,
+		"fmt.Printf": formats, "log.Printf": logsFormat, "log.SetFlags": nothing, "log.SetPrefix": noPrefix,
 		"log.Fatal": fatal, "log.Fatalln": fatal, "log.Fatalf": fatalFormat,
 		"fmt.Errorf": newError, "errors.New": newError, "errors.Is": isOfError,
 		"time.Sleep": sleeps, "time.After": after, "time.Tick": tick, "time.NewTimer": newTimer, "time.NewTicker": newTicker,
+		"time.AfterFunc": afterFunc, "time.Now": now, "time.Since": noTime,
+		"fmt.Fprintln": toFile(prints), "fmt.Fprint": toFile(printsOpen), "fmt.Fprintf": toFile(formats),
+		"log.Panic": logsPanic, "log.Panicln": logsPanic, "log.Panicf": logsPanic,
 		"context.Background": background, "context.TODO": background, "context.WithCancel": withCancel, "context.WithTimeout": withTimeout,
+		"context.WithDeadline":                   withTimeout,
 		"golang.org/x/sync/errgroup.WithContext": groupWithContext,
 		"sync.NewCond":                           newCond,
 		"math/rand.Intn":                         chooses, "math/rand.Int31n": chooses, "math/rand.Int63n": chooses, "math/rand.Seed": nothing,
@@ -56,6 +60,11 @@ func init() {
 		packageCalls["sync/atomic.Load"+size] = atomicLoads
 		packageCalls["sync/atomic.Store"+size] = atomicStores
 	}
+}
+
+func noPrefix(f *function, it *ast.CallExpr) []Value {
+	f.change(it, "printing", "the prefix is left away")
+	return nil
 }
 
 func nothing(f *function, it *ast.CallExpr) []Value { return nil }
@@ -108,6 +117,28 @@ func fatalFormat(f *function, it *ast.CallExpr) []Value {
 	return exits(f, it)
 }
 
+// logsPanic is a panic whose text stands in a log.
+func logsPanic(f *function, it *ast.CallExpr) []Value {
+	f.panics(it)
+	return nil
+}
+
+// toFile is what writes to a file as what writes to the console, if the file is the standard output or the standard error.
+func toFile(do func(*function, *ast.CallExpr) []Value) func(*function, *ast.CallExpr) []Value {
+	return func(f *function, it *ast.CallExpr) []Value {
+		selector, _ := unparen(it.Args[0]).(*ast.SelectorExpr)
+		if selector == nil || types.ExprString(selector) != "os.Stdout" && types.ExprString(selector) != "os.Stderr" {
+			f.refuse(it, "printing", "only what goes to os.Stdout or os.Stderr is carried", "write it with fmt.Println")
+		}
+		if selector.Sel.Name == "Stderr" {
+			f.change(it, "printing", "what goes to os.Stderr is a line of the console")
+		}
+		rest := *it
+		rest.Args = it.Args[1:]
+		return do(f, &rest)
+	}
+}
+
 func exits(f *function, it *ast.CallExpr) []Value {
 	f.change(it, "exit", "to leave the program is a fault: a call of the function exit closes a nil channel")
 	f.emit(f.fault("exit") + "()")
@@ -152,6 +183,30 @@ func tick(f *function, it *ast.CallExpr) []Value {
 func newTimer(f *function, it *ast.CallExpr) []Value { return timer(f, it, "run_timer") }
 
 func newTicker(f *function, it *ast.CallExpr) []Value { return timer(f, it, "run_ticker") }
+
+const noClock = "there is no clock: no time passes between two moments"
+
+func now(f *function, it *ast.CallExpr) []Value {
+	f.change(it, "time", noClock)
+	return []Value{{Shape: Unit{}, Binds: atom}}
+}
+
+// noTime is the time that passed between two moments.
+func noTime(f *function, it *ast.CallExpr) []Value {
+	f.change(it, "time", noClock)
+	f.all(it.Args)
+	return []Value{number(0)}
+}
+
+// afterFunc is a goroutine that calls a function, unless its timer was stopped before.
+func afterFunc(f *function, it *ast.CallExpr) []Value {
+	f.change(it, "time", told[Timer])
+	made := f.spill(Value{Shape: Timer, Code: []string{f.typedZero("chan struct{}"), "make(chan struct{}, 1)"}, Binds: atom, Acts: true}, "timer")
+	fun := f.function(it.Args[1])
+	to := f.prepare(it, fun, nil, nil)
+	f.emit("go " + f.wrapper(fun, to, Timer) + "(" + commas(made.Code, to.code) + ")")
+	return []Value{made}
+}
 
 func timer(f *function, it *ast.CallExpr, run string) []Value {
 	f.change(it, "time", told[Timer])

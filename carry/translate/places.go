@@ -12,6 +12,7 @@ type place struct {
 	shape Shape
 	code  []string
 	cells []bool
+	first string // of a slice that is also taken from: the index of its first element, around which the others lie
 }
 
 func (f *function) variable(object types.Object, node ast.Node) place {
@@ -26,9 +27,9 @@ func (f *function) variable(object types.Object, node ast.Node) place {
 		panic(obstacle{})
 	}
 	if ref, ok := known.shape.(Ref); ok && known.shared {
-		return place{ref.Of, known.names, ref.cells()}
+		return place{shape: ref.Of, code: known.names, cells: ref.cells()}
 	}
-	return place{known.shape, known.names, make([]bool, len(known.names))}
+	return place{shape: known.shape, code: known.names, cells: make([]bool, len(known.names))}
 }
 
 // place finds where an expression lies that has an address, or is a part of a value.
@@ -46,16 +47,16 @@ func (f *function) place(e ast.Expr) place {
 		return f.element(it)
 	}
 	value := f.value(e)
-	return place{value.Shape, value.Code, make([]bool, len(value.Code))}
+	return place{shape: value.Shape, code: value.Code, cells: make([]bool, len(value.Code))}
 }
 
 // pointee is where a pointer leads.
 func (f *function) pointee(pointer Value) place {
 	ref, ok := pointer.Shape.(Ref)
 	if !ok {
-		return place{pointer.Shape, pointer.Code, make([]bool, len(pointer.Code))}
+		return place{shape: pointer.Shape, code: pointer.Code, cells: make([]bool, len(pointer.Code))}
 	}
-	return place{ref.Of, pointer.Code, ref.cells()}
+	return place{shape: ref.Of, code: pointer.Code, cells: ref.cells()}
 }
 
 // hasPlace says whether an expression names a variable, or a part of one or of what a pointer leads to.
@@ -127,16 +128,16 @@ func (f *function) step(where place, t types.Type, at int, node ast.Node) place 
 	name := record.Fields[at].Name
 	from, shape := record.at(name)
 	to := from + len(shape.leaves())
-	return place{shape, where.code[from:to], where.cells[from:to]}
+	return place{shape: shape, code: where.code[from:to], cells: where.cells[from:to]}
 }
 
 // toolField is a field of a tool: the channel of a timer, or the lock of a condition.
 func (f *function) toolField(where place, tool Tool, node ast.Node) place {
 	switch tool {
 	case Timer:
-		return place{Chan{Unit{}}, where.code[:1], where.cells[:1]}
+		return place{shape: Chan{Unit{}}, code: where.code[:1], cells: where.cells[:1]}
 	case Cond:
-		return place{Mutex, where.code[:1], where.cells[:1]}
+		return place{shape: Mutex, code: where.code[:1], cells: where.cells[:1]}
 	}
 	f.refuse(node, "packages", "this field is not carried", "")
 	return place{}
@@ -165,7 +166,7 @@ func (f *function) element(it *ast.IndexExpr) place {
 			f.refuse(it, "slices", "the index is out of range", "")
 		}
 		from := *index.Number * width
-		return place{list.Elem, where.code[from : from+width], where.cells[from : from+width]}
+		return place{shape: list.Elem, code: where.code[from : from+width], cells: where.cells[from : from+width]}
 	}
 	if list.Len == 0 {
 		f.refuse(it, "slices", "the slice has no elements", "")
@@ -175,6 +176,9 @@ func (f *function) element(it *ast.IndexExpr) place {
 
 func (f *function) lookedUp(list List, where place, index Value, width int) place {
 	key := index.one()
+	if where.first != "" {
+		key = "(" + where.first + " + " + index.within(precedence[token.ADD]) + ") % " + itoa(mostGrown)
+	}
 	if width > 1 && (index.Acts || strings.ContainsAny(key, " (")) {
 		key = f.temporary("index")
 		f.emit(key + " := " + index.one())

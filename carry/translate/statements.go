@@ -229,6 +229,10 @@ func (f *function) assign(it *ast.AssignStmt) {
 		f.grow(it, call)
 		return
 	}
+	if part := f.cuts(it); part != nil {
+		f.cut(it, part)
+		return
+	}
 	if f.alias(it) {
 		return
 	}

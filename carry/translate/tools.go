@@ -99,6 +99,11 @@ func (f *function) toolMethod(it *ast.CallExpr, selector *ast.SelectorExpr, choi
 	}
 	tool, ok := isTool(receiver.Shape)
 	name := choice.Obj().Name()
+	if fullName(f.typeOf(selector.X)) == "time.Time" && (name == "Sub" || name == "Add") {
+		f.change(it, "time", noClock)
+		f.all(it.Args)
+		return []Value{map[string]Value{"Sub": number(0), "Add": {Shape: Unit{}, Binds: atom}}[name]}
+	}
 	if !ok {
 		f.refuse(it, "packages", name+" is not carried", "")
 	}
@@ -152,6 +157,7 @@ func init() {
 		"context.Done":          (*function).contextDone,
 		"context.Err":           (*function).contextErr,
 		"timer.Stop":            (*function).stopTimer,
+		"timer.Reset":           (*function).resetTimer,
 		"errgroup.Go":           (*function).errGo,
 		"errgroup.Wait":         gives("group_wait", Num{Error}),
 	}
@@ -269,6 +275,18 @@ func (f *function) contextErr(_ *ast.CallExpr, of []string) []Value {
 
 func (f *function) stopTimer(_ *ast.CallExpr, of []string) []Value {
 	return []Value{single(Truth{}, f.helper("stop_timer")+"("+of[1]+")", true)}
+}
+
+// resetTimer starts a timer anew. A ticker goes on as it did.
+func (f *function) resetTimer(it *ast.CallExpr, of []string) []Value {
+	f.all(it.Args)
+	if fullName(pointedType(f.typeOf(it.Fun.(*ast.SelectorExpr).X))) == "time.Ticker" {
+		return nil
+	}
+	if f.src.Uses("time", "AfterFunc") {
+		f.refuse(it, "time", "Reset is not carried in a program with time.AfterFunc", "make a new timer")
+	}
+	return []Value{single(Truth{}, f.helper("reset_timer")+"("+commas(of)+")", true)}
 }
 
 // errGo is g.Go(f): a goroutine that calls the function, keeps the first error, and is done.

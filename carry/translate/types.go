@@ -15,8 +15,8 @@ func (f *function) shapeOf(t types.Type, node ast.Node) Shape {
 		}
 		return Handle{tool}
 	}
-	if name := fullName(t); name == "time.Time" || name == "time.Month" {
-		f.refuse(node, "time", "moments of time are not carried", "there is no clock: leave out what measures time")
+	if fullName(t) == "time.Time" {
+		return Unit{}
 	}
 	if isError(t) {
 		return Num{Error}
