@@ -3,7 +3,6 @@ package main
 import (
 	"fmt"
 	"log"
-	"sync"
 )
 
 func withdraw(balance, amount int) int {
@@ -15,18 +14,17 @@ func withdraw(balance, amount int) int {
 
 func main() {
 	log.SetFlags(0)
-	var mu sync.Mutex
-	var wg sync.WaitGroup
-	balance := 10
-	for _, amount := range []int{6, 7} {
-		wg.Add(1)
-		go func(amount int) {
-			defer wg.Done()
-			mu.Lock()
-			defer mu.Unlock()
-			balance = withdraw(balance, amount)
-		}(amount)
+	amounts := make(chan int)
+	for _, amount := range []int{6, 3, 4} {
+		go func(amount int) { amounts <- amount }(amount)
 	}
-	wg.Wait()
+	balance := 10
+	for i := 0; i < 2; i++ {
+		balance = withdraw(balance, <-amounts)
+	}
 	fmt.Println(balance)
+	if balance == 0 {
+		log.Panicf("nothing is left after %d", 2)
+	}
+	balance = withdraw(balance, <-amounts)
 }

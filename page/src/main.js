@@ -42,6 +42,7 @@ function makePage() {
   const made = {};
   const later = () => /** @type {Page} */ (made.page);
   made.page = new Page(told, makeViews(told, later, words, paneEvents(later), (line) => showStepsOf(later(), line)), words);
+  words.where = (line) => made.page?.session?.origin.where(line) || `line ${line}`;
   return later();
 }
 

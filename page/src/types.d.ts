@@ -23,7 +23,7 @@ interface Note {
 interface Operation { text: string; isSend: boolean; channel: string; sent: string }
 
 interface Token { text: string; at: number; line: number; column: number }
-interface Statement { line: number; column: number; start: number; end: number; text: string; expandedLine: number; clauses: string[]; func: string }
+interface Statement { line: number; column: number; start: number; end: number; text: string; expandedLine: number; clauses: string[]; func: string; shown?: string }
 
 // What the panes show: the session at one moment.
 // Of many goroutines some are not shown: then `isPartial`, and whether none is ready is asked of the session.

@@ -37,8 +37,68 @@ async function carried(hands) {
   await hands.click("#carry-use");
   await hands.key("r");
   assert.ok((await hands.text("#console")).includes("count 1"), "what was carried over runs");
-  await hands.browser.run("rewind.page.views.editor.editor.undo()");
-  assert.equal(await hands.browser.run("rewind.page.views.editor.text"), REAL, "undoing in the editor brings back the source");
+  assert.equal(await hands.browser.run("rewind.page.views.editor.text"), REAL, "the source stays in view");
+  await hands.click("#carried");
+  await hands.until("document.querySelector('#carry-dialog').open");
+  assert.ok((await hands.browser.run("document.querySelector('#carry-after').textContent")).includes("mu <- struct{}{}"), "what is run is shown once more");
+  await hands.browser.run("document.querySelector('#carry-dialog').close()");
+}
+
+// The two locks of this program are taken in two orders.
+const LOCKS = `package main
+
+import "sync"
+
+func main() {
+	var a, b sync.Mutex
+	var wg sync.WaitGroup
+	wg.Add(2)
+	go func() {
+		defer wg.Done()
+		a.Lock()
+		b.Lock()
+		b.Unlock()
+		a.Unlock()
+	}()
+	go func() {
+		defer wg.Done()
+		b.Lock()
+		a.Lock()
+		a.Unlock()
+		b.Unlock()
+	}()
+	wg.Wait()
+}
+`;
+
+/** @param {Hands} hands */
+async function deadlock(hands) {
+  await hands.source(LOCKS);
+  await hands.click(".refusal-note .carry");
+  await hands.until("document.querySelector('#carry-dialog').open");
+  await hands.click("#carry-use");
+  await hands.act("search-all");
+  await hands.until("/deadlock/.test(document.querySelector('#headline').textContent)");
+  await hands.act("follow");
+  await hands.until("/wait for each other/.test(document.querySelector('#headline').textContent)");
+  const lines = await hands.browser.run("document.querySelector('#why-lines').textContent");
+  assert.ok(/at line 12: b.Lock\(\)/.test(lines), lines);
+  assert.ok(/at line 19: a.Lock\(\)/.test(lines), lines);
+  const marked = await hands.browser.run("[...document.querySelectorAll('.at-line')].map((it) => it.textContent).sort().join()");
+  assert.equal(marked, "g0,g0.1,g0.2", "each goroutine stands at a line of the source");
+  assert.ok(await hands.browser.run("[...document.querySelectorAll('#picture-frame *')].some((it) => it.textContent === 'b.Lock()')"), "the picture has the source's text");
+}
+
+// A breakpoint at a line of the source, in a function that stands elsewhere in what is run. A text that was carried over once opens at once.
+/** @param {Hands} hands */
+async function breakpoint(hands) {
+  await hands.source(LOCKS);
+  await hands.browser.run("rewind.page.views.editor.on.toggleBreak(13)");
+  await hands.until("rewind.page.session.breakpoints.size === 1");
+  assert.deepEqual(await hands.browser.run("rewind.page.views.editor.breaks"), [13], "the mark stands at the line of the source");
+  await hands.key("r");
+  await hands.until("/breakpoint/.test(document.querySelector('#headline').textContent)");
+  assert.ok(/breakpoint in line 13/.test(await hands.text("#headline")), "the line of the source is told");
 }
 
 /** @param {Hands} hands */
@@ -65,5 +125,5 @@ async function plain(hands) {
  */
 export async function realGo(t, browser, page) {
   if (!existsSync(page.replace(/[^/]*$/, "rewind-carry.js"))) return t.skip("'make carry-page' makes what carries Go over");
-  await inTurn(t, browser, { "carried and run": carried, "what is left": left, "nothing to carry": plain });
+  await inTurn(t, browser, { "carried and run": carried, "a deadlock": deadlock, "a breakpoint": breakpoint, "what is left": left, "nothing to carry": plain });
 }

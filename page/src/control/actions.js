@@ -1,5 +1,6 @@
 // What the buttons of the page do.
 
+import { showCarried } from "../panes/carrying.js";
 import { asPng } from "../picture/saved.js";
 import { bringBack } from "./losses.js";
 import { EXPORTS } from "../exports/saving.js";
@@ -73,6 +74,7 @@ const ACTIONS = {
   again: (page) => page.open(),
   restart: (page) => page.open(),
   own: ownProgram,
+  carried: showCarried,
   next: nextOfStory,
   play: (page) => page.player.toggle(),
   "ask-first": (page) => page.prediction.toggle(),

@@ -7,7 +7,7 @@
 export async function takeBreaks(page) {
   const { session, views } = page;
   if (!session) return;
-  const wanted = views.editor.breaks.map((line) => session.statements.snap(line)).filter((line) => line);
+  const wanted = views.editor.breaks.map((line) => session.snap(line)).filter((line) => line);
   await session.setBreaks(wanted);
   showBreaks(page);
 }
@@ -15,7 +15,7 @@ export async function takeBreaks(page) {
 // Shows the breakpoints of the session. The line to which a run goes is none.
 /** @param {Page} page */
 export function showBreaks({ session, views }) {
-  if (session) views.editor.markBreaks([...session.breakpoints].filter((line) => line !== session.goal));
+  if (session) views.editor.markBreaks([...session.breakpoints].filter((line) => line !== session.goal).map((line) => session.origin.lineOf(line)).filter((line) => line));
 }
 
 // Sets or removes a breakpoint: at the first statement at this line or below.
@@ -27,10 +27,10 @@ export async function toggleBreak(page, line) {
   const { session, views } = page;
   if (session && views.editor.text === session.source && !session.gone) {
     if (page.hindrance) return page.say(page.hindrance, "bad");
-    const snapped = session.statements.snap(line);
+    const snapped = session.snap(line);
     if (!snapped) return page.say("There is no statement at this line or below.", "bad");
     await page.perform(`${session.breakpoints.has(snapped) ? "clear" : "break"} ${snapped}`);
-    return page.say(session.breakpoints.has(snapped) ? `A run stops before line ${snapped}.` : `The breakpoint in line ${snapped} is gone.`);
+    return page.say(session.breakpoints.has(snapped) ? `A run stops before ${session.origin.where(snapped)}.` : `The breakpoint in ${session.origin.where(snapped)} is gone.`);
   }
   const lines = new Set(views.editor.breaks);
   if (!lines.delete(line)) lines.add(line);

@@ -5,6 +5,7 @@ import { Log } from "../session/log.js";
 import { readScene } from "../session/scene.js";
 import { stepName } from "../engine/protocol.js";
 
+const LOOKED_AT = 50; // steps back, for the last one outside of what carrying added
 const MOST_SENDS = 1 << 24; // of one channel, among which the last is looked for
 
 /** @typedef {import("../session/session.js").Session} Session */
@@ -51,11 +52,29 @@ export function printerOf({ log, follower }, line) {
  * @param {Session} session
  * @param {number} line
  */
-export function stepsOfLine({ log, follower }, line) {
+export function stepsOfLine({ log, follower, origin }, line) {
   const found = [];
   for (let row = 0; row < log.length; row++) {
     const id = log.id(row);
-    if (follower.notes.get(id)?.line === line) found.push(id);
+    if (origin.lineOf(follower.notes.get(id)?.line || 0) === line) found.push(id);
+  }
+  return found;
+}
+
+// The line of the user's source at which a goroutine stands. Within a function that carrying added it is that of its last step outside.
+/**
+ * @param {Session} session
+ * @param {Goroutine | null | undefined} goroutine
+ */
+export function placeOf(session, goroutine) {
+  const { log, follower, origin, program } = session;
+  if (!goroutine) return 0;
+  const { name, line, frames } = goroutine;
+  let found = origin.lineOf(line);
+  for (let id = lastOf(session, name), count = 0; !found && line && id && count < LOOKED_AT; id = log.before(id), count++) found = origin.lineOf(follower.notes.get(id)?.line || 0);
+  for (let at = 1; !found && line && at < frames.length; at++) {
+    const calls = program.callingLines(frames[at].name, frames[at - 1].name);
+    if (calls.length === 1) found = origin.lineOf(calls[0]);
   }
   return found;
 }
@@ -71,7 +90,7 @@ export function stepsWith({ log, follower }, text) {
   for (let row = 0; row < log.length; row++) {
     const id = log.id(row);
     const note = follower.notes.get(id);
-    if ([id, log.kinds[row], note?.statement?.text || "", ...(note?.printed || [])].some((it) => it.toLowerCase().includes(wanted))) found.push(id);
+    if ([id, log.kinds[row], note?.statement?.text || "", note?.statement?.shown || "", ...(note?.printed || [])].some((it) => it.toLowerCase().includes(wanted))) found.push(id);
   }
   return found;
 }

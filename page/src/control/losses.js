@@ -77,9 +77,9 @@ async function mend(page, session) {
 export async function bringBack(page) {
   const { session, machine } = page;
   if (!session || !machine) return;
-  const { commands, source, breakpoints } = session;
+  const { commands, source, carried, breakpoints } = session;
   await page.doing(async () => {
-    const fresh = await Session.open(machine, source);
+    const fresh = await Session.open(machine, source, carried);
     await page.swap(fresh);
     await page.replay(commands);
     await fresh.setBreaks(breakpoints);

@@ -74,8 +74,8 @@ async function stepping(page, session, isThere) {
     if (session.log.isOver) return page.words.reply(`step ${chosen}`, reply);
     const at = await standing(session, chosen);
     if (at.state === "done") return `${chosen} is done.`;
-    if (isThere(at)) return `${chosen} stands at line ${at.line}.`;
-    if (at.line && session.breakpoints.has(at.line)) return `${chosen} stopped at the breakpoint in line ${at.line}.`;
+    if (isThere(at)) return `${chosen} stands at ${session.origin.where(at.line || 0)}.`;
+    if (at.line && session.breakpoints.has(at.line)) return `${chosen} stopped at the breakpoint in ${session.origin.where(at.line)}.`;
   }
   return `${MOST.toLocaleString("en")} steps were taken, and no end is in sight.`;
 }
@@ -113,7 +113,7 @@ const helpOn = (page, session) => page.moving(async () => {
   }
   await page.refresh();
   const { state, line } = await standing(session, page.chosen);
-  page.say(state === "waiting" ? `${page.chosen} still waits, and nobody helped it on.` : `${page.chosen} goes on at line ${line}: the others ran until then.`);
+  page.say(state === "waiting" ? `${page.chosen} still waits, and nobody helped it on.` : `${page.chosen} goes on at ${session.origin.where(line || 0)}: the others ran until then.`);
 });
 
 // Steps the chosen goroutine until it waits or is done.
@@ -128,7 +128,7 @@ export const runAlone = (page) => stepUntil(page, () => false);
 export async function runToLine(page, line) {
   const { session } = page;
   if (!session || page.hindrance) return page.say(page.hindrance, "bad");
-  const goal = session.statements.snap(line);
+  const goal = session.snap(line);
   if (!goal) return page.say("There is no statement at this line or below.", "bad");
   if (session.breakpoints.has(goal)) return page.run(LONGEST_RUN);
   session.goal = goal;

@@ -4,6 +4,7 @@ import { counted } from "../element.js";
 import { isEmbedded } from "./embedding.js";
 import { askedBy, fromHash } from "./linking.js";
 import { kept } from "./keeping.js";
+import { openAgain } from "../panes/carrying.js";
 
 const DAMAGED = "The link is damaged, and no session can be read of it: ask for it anew.";
 // The first view: the program is stuck, and a step is chosen that can be taken back.
@@ -57,7 +58,8 @@ export async function begin(page) {
  */
 export async function openBeginning(page, shared) {
   page.views.editor.markBreaks(shared.breaks || []);
-  if (!(await page.open()) || !shared.commands.length) return;
+  const isOpen = await (shared.commands.length ? openAgain(page) : page.open());
+  if (!isOpen || !shared.commands.length) return;
   await page.replay(shared.commands);
   page.views.stories.catchUp(shared.commands);
   page.say(`${counted(shared.commands.length, "command")} ${shared.commands.length === 1 ? "was" : "were"} done again.`);

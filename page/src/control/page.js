@@ -5,7 +5,8 @@ import { Annotating } from "./annotating.js";
 import { showBreaks, takeBreaks } from "./breaks.js";
 import { Session } from "../session/session.js";
 import { endOfRun } from "../panes/words.js";
-import { lastOf } from "./finding.js";
+import { carriedOf } from "../panes/carrying.js";
+import { lastOf, placeOf } from "./finding.js";
 import { blinded, lost } from "./losses.js";
 import { Past } from "./past.js";
 import { Pointing } from "./pointing.js";
@@ -96,7 +97,7 @@ export class Page {
     this.refusedLine = 0;
     return this.doing(async () => {
       try {
-        const session = await Session.open(machine, text);
+        const session = await Session.open(machine, text, carriedOf(text));
         if (opening !== this.openings) return session.leave(), false;
         await this.swap(session);
         return true;
@@ -120,7 +121,7 @@ export class Page {
     this.views.picture.channel = "";
     this.views.stories.restart();
     this.views.transcript.clear();
-    this.views.transcript.remark("The source is checked, and its program stands before its first step.");
+    this.views.transcript.remark(`The source is ${session.carried ? "carried over" : "checked"}, and its program stands before its first step.`);
     this.say("The program stands before its first step.");
     await takeBreaks(this);
     await this.refresh();
@@ -233,7 +234,7 @@ export class Page {
         if (session !== this.session) return null;
         const told = reply || { lines: [], last: `ok ${taken} ${reason}`, words: ["ok", String(taken), ...reason.split(" ")], isOk: true };
         this.views.transcript.add(asked, told);
-        if (await this.refresh()) this.say(`${reply ? this.words.reply(asked, reply) : endOfRun(taken, reason)} ${((performance.now() - began) / 1000).toFixed(1)} s.`);
+        if (await this.refresh()) this.say(`${reply ? this.words.reply(asked, reply) : endOfRun(taken, reason, this.words.where)} ${((performance.now() - began) / 1000).toFixed(1)} s.`);
         return told;
       } catch (fault) {
         lost(this, session, fault);
@@ -304,7 +305,7 @@ export class Page {
     views.panes.goroutines(scene, { chosen, isOver, canStep, program: session?.program || null });
     views.panes.channels(scene);
     views.panes.console(scene);
-    if (session && views.editor.text === session.source) views.editor.markPlaces(scene.goroutines);
+    if (session && views.editor.text === session.source) views.editor.markPlaces(scene.goroutines.map((it) => ({ ...it, line: placeOf(session, it) })));
     else views.editor.clearPlaces();
     this.showControls();
   }
@@ -327,7 +328,7 @@ export class Page {
 
   // Scrolls the source to where the chosen goroutine stands.
   showPlace() {
-    const line = this.session?.scene.goroutines.find((it) => it.name === this.chosen)?.line;
+    const line = this.session && placeOf(this.session, this.session.scene.goroutines.find((it) => it.name === this.chosen));
     if (line) this.views.editor.reveal(line);
   }
 

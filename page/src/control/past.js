@@ -1,5 +1,6 @@
 // Looks at a past state: the panes show it, the picture dims what came later, and the session is left as it is.
 
+import { placeOf } from "./finding.js";
 import { isUnanswered } from "../engine/remote.js";
 import { unshown } from "../session/scene.js";
 
@@ -66,7 +67,8 @@ export class Past {
     page.pointing.draw();
     if (row) page.views.picture.reveal(log.id(row - 1));
     const stands = row < log.length ? scene.goroutines.find(({ name }) => name === log.columns[row].name) : null;
-    if (stands?.line) page.views.editor.reveal(stands.line);
+    const line = page.session && placeOf(page.session, stands);
+    if (line) page.views.editor.reveal(line);
   }
 
   leave() {

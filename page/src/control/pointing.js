@@ -153,7 +153,7 @@ export class Pointing {
     });
     page.views.overview.draw();
     const isOfText = page.session?.source === page.views.editor.text;
-    page.views.editor.markChosen(isOfText ? note : undefined, true);
+    page.views.editor.markChosen(isOfText ? page.session?.origin.noted(note) : undefined, true);
     page.views.chosen.show(page);
   }
 

@@ -61,7 +61,7 @@ async function search(page, taken) {
     page.showControls(true);
     try {
       const words = ["rewind", "--search", "program.go", "--after", "-", "--states", String(STATES)];
-      const found = await remote.whole(words, session.source, taken.map((line) => `${line}\n`).join(""));
+      const found = await remote.whole(words, session.text, taken.map((line) => `${line}\n`).join(""));
       return session === page.session ? found : null;
     } catch (fault) {
       if (!(fault instanceof SessionGone)) throw fault;

@@ -3,6 +3,7 @@
 import { counted, download, escapedAttribute } from "../element.js";
 import { fromFiles, isOfSource, toFile } from "./filing.js";
 import { toHash } from "./linking.js";
+import { openAgain } from "../panes/carrying.js";
 
 /** @typedef {import("./page.js").Page} Page */
 
@@ -67,7 +68,7 @@ export async function openFiles(page, files) {
   if (source !== null || lesson) {
     page.views.stories.turnTo(lesson ? { lesson } : {});
     page.views.editor.text = source ?? page.views.editor.text;
-    if (!(await page.open())) return;
+    if (!(await (commands.length ? openAgain(page) : page.open()))) return;
   }
   await page.replay(commands);
   page.say(await openedText(page, opened));

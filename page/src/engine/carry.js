@@ -6,6 +6,7 @@ export const FILE = "rewind-carry.js";
  * What became of a place of the source: `kind` is carried, changed or left.
  * @typedef {object} Carried
  * @property {boolean} carried
+ * @property {string} source that was carried over
  * @property {string} text the carried program, where all of it is carried
  * @property {{line: number, column: number, kind: string, rule: string, what: string, advice?: string}[]} notes
  * @property {{line: number, source: number, column: number, function: string}[]} places from which line each line comes
@@ -24,7 +25,7 @@ export async function carry(name, text) {
   tool ||= load();
   const call = await tool;
   if (!call) tool = null;
-  return call && JSON.parse(call(name, text));
+  return call && { ...JSON.parse(call(name, text)), source: text };
 }
 
 async function load() {

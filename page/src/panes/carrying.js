@@ -8,6 +8,13 @@ import { button, counted, find, make } from "../element.js";
 
 const IMPORTS = /^\s*import\b/m;
 
+/** @type {Carried | null} */
+let last = null; // what was carried over last, to be run
+
+// What a text was carried over to, if it was.
+/** @param {string} text */
+export const carriedOf = (text) => (last?.source === text ? last : null);
+
 // The button beside a refusal, where the source imports something.
 /**
  * @param {Page} page
@@ -42,13 +49,30 @@ function show(page, text, found) {
   find("carry-before").textContent = text;
   find("carry-after").textContent = found.text || "";
   const dialog = /** @type {HTMLDialogElement} */ (find("carry-dialog"));
-  find("carry-use").hidden = !found.carried;
+  find("carry-use").hidden = !found.carried || page.session?.carried === found;
   find("carry-use").onclick = () => {
     dialog.close();
-    page.views.editor.text = found.text;
+    last = found;
     page.open();
   };
   dialog.showModal();
+}
+
+// Shows once more what the source was carried over to that is run.
+/** @param {Page} page */
+export function showCarried(page) {
+  if (page.session?.carried) show(page, page.session.source, page.session.carried);
+}
+
+// Opens the text of the editor, and carries it over where it is refused: work that was kept, or came by a link, is taken up again.
+/** @param {Page} page */
+export async function openAgain(page) {
+  if (await page.open()) return true;
+  const text = page.views.editor.text;
+  const found = IMPORTS.test(text) ? await carry("source.go", text) : null;
+  if (!found?.carried) return false;
+  last = found;
+  return page.open();
 }
 
 /**

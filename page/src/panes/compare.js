@@ -42,7 +42,7 @@ const SHOWN = 400; // rows from where the logs part
 /** @param {import("../control/page.js").Page} page */
 function rowsOf(page) {
   const { session } = page;
-  const statement = (/** @type {string} */ id) => shortened(page.note(id)?.statement?.text || "", STATEMENT);
+  const statement = (/** @type {string} */ id) => shortened(session?.origin.noted(page.note(id))?.statement?.text || "", STATEMENT);
   return session ? session.log.steps(0, session.log.length).map(({ id, kind }) => ({ id, kind, statement: statement(id) })) : [];
 }
 

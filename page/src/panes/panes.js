@@ -79,10 +79,11 @@ function framesOf(goroutine, on, holders) {
 /**
  * @param {Goroutine} goroutine
  * @param {boolean} isOver
+ * @param {import("../waiting/flows.js").Program | null} program
  */
-function stateText({ state, steps, line }, isOver) {
+function stateText({ state, steps, line }, isOver, program) {
   const word = isOver && state === "ready" ? "stopped" : state;
-  return line ? `${word} at line ${line}, ${inSteps(steps)}` : `${word}, ${inSteps(steps)}`;
+  return line ? `${word} at ${program ? program.where(line) : `line ${line}`}, ${inSteps(steps)}` : `${word}, ${inSteps(steps)}`;
 }
 
 // The buttons of a goroutine that is ready: one step, or one for each clause of a select that can be taken.
@@ -101,13 +102,13 @@ function stepButtons({ name }, clauses, on) {
 
 /**
  * @param {Goroutine} goroutine
- * @param {{clauses: Clause[], isChosen: boolean, isOver: boolean, canStep: boolean, wait: string, holders: Map<string, Set<string>>}} how
+ * @param {{clauses: Clause[], isChosen: boolean, isOver: boolean, canStep: boolean, wait: string, holders: Map<string, Set<string>>, program: import("../waiting/flows.js").Program | null}} how
  * @param {PaneEvents} on
  */
-function goroutineCard(goroutine, { clauses, isChosen, isOver, canStep, wait, holders }, on) {
+function goroutineCard(goroutine, { clauses, isChosen, isOver, canStep, wait, holders, program }, on) {
   const { name, state } = goroutine;
   const choose = button({ "aria-pressed": String(isChosen), onclick: () => on.choose(name) }, name);
-  const shown = make("span", { class: state === "waiting" ? "state waiting" : "state" }, stateText(goroutine, isOver));
+  const shown = make("span", { class: state === "waiting" ? "state waiting" : "state" }, stateText(goroutine, isOver, program));
   const start = name === "g0" ? [] : [asked(`Find the step that started ${name}`, `started by ${name.slice(0, name.lastIndexOf("."))}`, () => on.findStep({ go: name }))];
   const card = make("div", { class: isChosen ? "card chosen" : "card", "data-goroutine": name }, make("div", { class: "top" }, choose, shown, ...start));
   if (wait) card.append(make("p", { class: "wait-text" }, wait));
@@ -137,7 +138,7 @@ export function showGoroutines(host, scene, { chosen, isOver, canStep, program }
   const done = scene.goroutines.filter(({ name, state }) => state === "done" && name !== chosen);
   const cards = scene.goroutines.filter((it) => !done.includes(it));
   const holders = holdersOf(scene.goroutines);
-  const how = (/** @type {string} */ name) => ({ holders, clauses: scene.clauses.get(name) || [], isChosen: name === chosen, isOver, canStep, wait: waits.get(name) || "" });
+  const how = (/** @type {string} */ name) => ({ holders, program, clauses: scene.clauses.get(name) || [], isChosen: name === chosen, isOver, canStep, wait: waits.get(name) || "" });
   host.replaceChildren(...cards.map((it) => goroutineCard(it, how(it.name), on)));
   if (done.length) host.append(make("p", { class: "done" }, "done: ", ...done.map(({ name, steps }) => button({ "data-goroutine": name, onclick: () => on.choose(name) }, `${name}, ${inSteps(steps)}`))));
   document.body.classList.toggle("many-cards", cards.length > MANY);

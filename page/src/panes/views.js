@@ -78,6 +78,7 @@ function showStory({ session, views: { stories, editor } }, lives) {
 function showStart({ session, views }) {
   const isStale = Boolean(session) && session?.source !== views.editor.text;
   find("stale").hidden = !isStale;
+  find("carried").hidden = isStale || !session?.carried;
   find("start-bar").classList.toggle("wanted", isStale || !session);
 }
 
@@ -97,7 +98,7 @@ export function makeViews(given, later, words, on, stepsOf) {
     move: (/** @type {string} */ id, /** @type {number} */ row) => void later().pointing.move(id, row),
     scrolled: () => later().annotating.scrolled(),
   };
-  const describe = (/** @type {Step} */ step) => describeStep(step, later().note(step.id), later().session?.log.length || 0, (kind) => words.kind(kind));
+  const describe = (/** @type {Step} */ step) => describeStep(step, later().session?.origin.noted(later().note(step.id)), later().session?.log.length || 0, (kind) => words.kind(kind));
   const picture = new PictureView(find("picture"), pointing, describe);
   const editorEvents = {
     open: () => void later().open(),

@@ -21,27 +21,34 @@ const ENDS_OF_RUNS = /** @type {{[reason: string]: string}} */ ({
 
 const FATES = { end: "would end", wait: "would wait for ever", "go on": "would still go on", fault: "would stop the program" };
 
+const ownLine = (/** @type {number} */ line) => `line ${line}`;
+
 // What a reason for the end of a run says.
-/** @param {string} reason */
-function reasonText(reason) {
-  if (reason.startsWith("break")) return `stopped at the breakpoint in line ${reason.slice(6)}`;
+/**
+ * @param {string} reason
+ * @param {(line: number) => string} where
+ */
+function reasonText(reason, where) {
+  if (reason.startsWith("break")) return `stopped at the breakpoint in ${where(Number(reason.slice(6)))}`;
   return ENDS_OF_RUNS[reason] || reason;
 }
 
 /**
  * @param {number} taken
  * @param {string} reason
+ * @param {(line: number) => string} where
  */
-export function endOfRun(taken, reason) {
+export function endOfRun(taken, reason, where = ownLine) {
   if (!taken && reason === "ended") return "The program has ended before: there is no step to take.";
   if (!taken && reason === "fault") return "A panic has stopped the program before: there is no step to take.";
-  return `${inSteps(taken)} taken: ${reasonText(reason)}.`;
+  return `${inSteps(taken)} taken: ${reasonText(reason, where)}.`;
 }
 
 export class Words {
   /** @param {Given} given */
   constructor(given) {
     this.given = given;
+    this.where = ownLine; // a line of the program that is run stands
   }
 
   // What a code means, behind the code, or nothing.
@@ -89,7 +96,7 @@ export class Words {
     if (word === "back") return `${inSteps(count)} taken back: ${reply.words[2]}${count === 1 ? "" : " and what depended on it"}.`;
     if (word === "redo") return `${inSteps(count)} taken again.`;
     if (word === "order") return "The steps stand in the new order. The state is the same.";
-    if (word === "run") return endOfRun(Number(reply.words[1]), reply.words.slice(2).join(" "));
+    if (word === "run") return endOfRun(Number(reply.words[1]), reply.words.slice(2).join(" "), this.where);
     return "";
   }
 
@@ -103,35 +110,37 @@ export class Words {
    */
   state({ log, scene, program }, standing, note) {
     const end = log.end;
-    if (end?.kind.startsWith("fault")) return { tone: "stuck", text: `${this.faultText(end, note(end.id))}${causeText(note(end.id))}` };
-    if (end) return this.ended(scene, standing);
+    if (end?.kind.startsWith("fault")) return { tone: "stuck", text: `${this.faultText(end, note(end.id), program)}${causeText(note(end.id))}` };
+    if (end) return this.ended(scene, standing, program);
     if (!scene.isStuck || !log.length) return null;
     const waits = new Wishes(program, scene.goroutines, scene.channels).shown(scene.hidden > 0);
-    const texts = waits.map(({ goroutine, line, wishes }) => `${goroutine} waits ${wishes.length ? `to ${wishesText({ wishes })}` : "for ever"} at line ${line}`);
+    const texts = waits.map(({ goroutine, line, wishes }) => `${goroutine} waits ${wishes.length ? `to ${wishesText({ wishes })}` : "for ever"} at ${program.where(line || 0)}`);
     return { tone: "stuck", text: `Deadlock: no goroutine is ready. ${[`${listed(texts, "; ")}.`, ...cycleText(standing?.cycle || [])].join(" ")}` };
   }
 
   /**
    * @param {Scene} scene
    * @param {import("../waiting/standing.js").Standing | null} standing
+   * @param {import("../waiting/flows.js").Program} program
    */
-  ended(scene, standing) {
+  ended(scene, standing, program) {
     if (scene.missing) return { tone: "good", text: "The program has ended." };
     const count = scene.goroutines.filter(({ name, state }) => state !== "done" && name !== "g0").length;
     if (!standing && scene.isPartial) return { tone: "good", text: `The program has ended. Of the first ${scene.goroutines.length} goroutines, ${notDone(count)}; the others are not shown.` };
     if (!standing) return { tone: "good", text: count ? `The program has ended. ${notDone(count)} when main returned.` : endedText(0, 0) };
     const { fates } = standing;
     const leaks = fates.filter(({ ending }) => ending === "wait");
-    const texts = fates.map(({ goroutine, ending, line }) => `${goroutine} ${FATES[ending]}${line ? ` at line ${line}` : ""}`);
+    const texts = fates.map(({ goroutine, ending, line }) => `${goroutine} ${FATES[ending]}${line ? ` at ${program.where(line)}` : ""}`);
     return { tone: leaks.length ? "stuck" : "good", text: `${endedText(fates.length, leaks.length)}${fates.length ? ` ${listed(texts, ", ")}.` : ""}` };
   }
 
   /**
    * @param {Step} step
    * @param {Note | undefined} note
+   * @param {import("../waiting/flows.js").Program} program
    */
-  faultText({ id, kind }, note) {
-    const at = note?.line ? ` at line ${note.line}` : "";
+  faultText({ id, kind }, note, program) {
+    const at = note?.line ? ` at ${program.where(note.line)}` : "";
     return `Panic in ${id}${at}: ${this.fault(kind.slice("fault ".length))}.`;
   }
 
@@ -142,8 +151,8 @@ export class Words {
    * @param {(id: string) => Note | undefined} note
    */
   headline(session, standing, note) {
-    const { log, scene } = session;
-    if (log.end?.kind.startsWith("fault")) return this.faultText(log.end, note(log.end.id));
+    const { log, scene, program } = session;
+    if (log.end?.kind.startsWith("fault")) return this.faultText(log.end, note(log.end.id), program);
     const { text } = this.state(session, standing, note) || { text: "" };
     if (log.end) return standing ? endedText(standing.fates.length, standing.fates.filter(({ ending }) => ending === "wait").length) : text;
     const cycle = standing?.cycle || [];

@@ -121,6 +121,7 @@ function outcomeOf(step, note, place) {
 function statementText({ kind }, { taken, statement }, place) {
   if (kind === "default") return "default";
   if (!statement || statement.text === "}") return place.does(kind);
+  if (statement.shown && !(taken && /^select\b/.test(statement.shown))) return statement.shown;
   return taken ? `case ${taken}` : statement.text;
 }
 

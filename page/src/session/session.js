@@ -8,10 +8,13 @@ import { Follower } from "./follower.js";
 import { Known } from "./known.js";
 import { Log } from "./log.js";
 import { Mirror } from "./mirror.js";
+import { Origin } from "./origin.js";
 import { NOTHING, unshown } from "./scene.js";
 import { isUnanswered, RemoteSession, SessionGone } from "../engine/remote.js";
 import { runInPortions } from "./runs.js";
 import { Statements } from "./statements.js";
+
+/** @typedef {import("../engine/carry.js").Carried} Carried */
 
 const KEPT = 5000; // commands that are kept for a link and for a reload
 
@@ -29,12 +32,16 @@ export class Session {
    * @param {Machine} machine
    * @param {string} source
    * @param {RemoteSession} user
+   * @param {Carried | null} carried what is run in place of the source, where that is real Go
    */
-  constructor(machine, source, user) {
+  constructor(machine, source, user, carried) {
     this.source = source;
+    this.carried = carried;
+    this.text = carried ? carried.text : source; // that is run
     this.user = user;
-    this.statements = new Statements(source);
-    this.program = new Program(source);
+    this.origin = new Origin(source, carried && carried.places);
+    this.statements = new Statements(this.text, this.origin);
+    this.program = new Program(this.text, this.origin);
     this.log = new Log();
     /** @type {Map<string, string>} */
     this.clauses = new Map(); // that were named in a step that was a fault
@@ -54,15 +61,16 @@ export class Session {
     this.turn = Promise.resolve();
   }
 
-  // Opens a session; throws Refused where the source is no program.
+  // Opens a session on a source, or on what it was carried over to; throws Refused where that is no program.
   /**
    * @param {Machine} machine
    * @param {string} source
+   * @param {Carried | null} carried
    */
-  static async open(machine, source) {
-    const user = await RemoteSession.open(machine, source);
+  static async open(machine, source, carried = null) {
+    const user = await RemoteSession.open(machine, carried ? carried.text : source);
     if (user.status === null) {
-      const session = new Session(machine, source, user);
+      const session = new Session(machine, source, user, carried);
       await session.mirror.open();
       return session;
     }
@@ -78,6 +86,16 @@ export class Session {
 
   get undone() {
     return this.log.gone.size;
+  }
+
+  // The line of the program that is run at which a run stops for a line of the user's source, or for one below it; 0 where there is none.
+  /** @param {number} line */
+  snap(line) {
+    for (let at = line; at <= this.origin.lines.length; at++) {
+      const found = this.origin.runLines(at).map((it) => this.statements.snap(it)).filter((it) => it && this.origin.lineOf(it) >= line);
+      if (found.length || !this.origin.isCarried) return found[0] || 0;
+    }
+    return 0;
   }
 
   leave() {

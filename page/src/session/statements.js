@@ -173,9 +173,13 @@ class Reader {
 }
 
 export class Statements {
-  /** @param {string} source */
-  constructor(source) {
+  /**
+   * @param {string} source
+   * @param {import("./origin.js").Origin | null} origin of a program that may have been carried over
+   */
+  constructor(source, origin = null) {
     const { statements, expanded } = new Reader(source).read();
+    if (origin?.isCarried) for (const it of statements) it.shown = origin.text(it.line);
     this.all = statements.filter(({ func }) => func);
     this.source = source;
     this.expanded = expanded;

@@ -187,10 +187,14 @@ class Reading {
 
 // What the functions of a source do with channels.
 export class Program {
-  /** @param {string} source */
-  constructor(source) {
+  /**
+   * @param {string} source
+   * @param {import("../session/origin.js").Origin | null} origin of a program that may have been carried over
+   */
+  constructor(source, origin = null) {
     const walk = new Walk(source);
     this.lines = source.split("\n");
+    this.origin = origin;
     this.carries = CARRIES.test(walk.tokens.map(({ text }) => text).join(" "));
     /** @type {Map<string, Flow>} */
     this.functions = new Map(walk.functions.map((it) => {
@@ -203,7 +207,13 @@ export class Program {
   // The text of a line with single spaces in it.
   /** @param {number} number */
   line(number) {
-    return (this.lines[number - 1] || "").split(/\s+/).filter((word) => word).join(" ");
+    return this.origin?.text(number) || (this.lines[number - 1] || "").split(/\s+/).filter((word) => word).join(" ");
+  }
+
+  // Where a line stands, in words: in the user's source, where it comes from there.
+  /** @param {number} line */
+  where(line) {
+    return this.origin ? this.origin.where(line) : `line ${line}`;
   }
 
   // The lines of the statements of one function that call another one.

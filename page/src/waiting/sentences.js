@@ -92,7 +92,7 @@ export class Sentences {
 
   /** @param {number} line */
   at(line) {
-    return line ? `line ${line}: ${this.program.line(line)}` : "a line that is not known";
+    return line ? `${this.program.where(line)}: ${this.program.line(line)}` : "a line that is not known";
   }
 }
 
