@@ -169,15 +169,40 @@ def test_in_the_shell(two_locks: Path) -> None:
     """The shell says that it carries a source over, takes breakpoints on its lines, and shows its text."""
     done = client("rewind-shell", two_locks, "break 12\nrun 1000\nwhy\n")
     assert done.stdout.startswith("two_locks.go is Go that was carried over: 'rewind-carry two_locks.go' tells")
-    assert "b.Lock() (line 12)" in done.stdout and done.returncode == 0, done.stdout
+    assert "Breakpoint on line 12: g0.1 comes to b.Lock()" in done.stdout and done.returncode == 0, done.stdout
 
 
 def test_in_the_hunt(two_locks: Path) -> None:
     """The hunt finds the deadlock, and tells the lines of the source."""
     done = client("rewind-hunt", two_locks)
     assert "two_locks.go is Go that was carried over" in done.stderr
-    assert "deadlock: no goroutine can go on" in done.stdout and "(b.Lock() (line 12))" in done.stdout
+    assert "deadlock: no goroutine can go on" in done.stdout and "main_func1 at line 12 (b.Lock())" in done.stdout
     assert "A cycle: g0.1 waits for g0.2, g0.2 waits for g0.1." in done.stdout
+
+
+def test_lines_of_the_source_in_the_shell(two_locks: Path) -> None:
+    """`list` shows the source, `carried` what is run, and a breakpoint is removed by its line in the source."""
+    done = client("rewind-shell", two_locks, "break 12\nrun 1000\nlist\nhistory 3\ncarried\nclear 12\nbreak\n")
+    assert "=>   12  \t\tb.Lock()   <- g0.1".replace("\t", "    ") in done.stdout, done.stdout
+    assert "11: a.Lock()" in done.stdout and "12      b <- struct{}{}" in done.stdout, done.stdout
+    assert "no breakpoint is set" in done.stdout, done.stdout
+
+
+def test_a_search_in_the_shell(two_locks: Path) -> None:
+    """A search of all schedules finds the deadlock, and `why` tells the lines of the source."""
+    done = client("rewind-shell", two_locks, "search\nfollow\nwhy\n")
+    assert "ends in a deadlock" in done.stdout and "at line 12: b.Lock()" in done.stdout, done.stdout
+    assert "at line 19: a.Lock()" in done.stdout and "called from main, line 23: wg.Wait()" in done.stdout, done.stdout
+
+
+def test_findings_of_the_hunt_as_data(two_locks: Path) -> None:
+    """The places of what was found are lines of the source."""
+    words = [str(TOP / "clients" / "rewind-hunt"), "--sarif", str(two_locks)]
+    settings = {**os.environ, "REWIND_CARRY": str(CARRY)}
+    done = subprocess.run(words, capture_output=True, text=True, timeout=60, env=settings, check=False)
+    results = json.loads(done.stdout)["runs"][0]["results"]
+    lines = {place["physicalLocation"]["region"]["startLine"] for it in results for place in it["locations"]}
+    assert lines == {12, 19, 23}, lines
 
 
 def test_what_is_left_is_told_at_once() -> None:

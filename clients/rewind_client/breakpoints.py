@@ -13,10 +13,11 @@ class Breakpoint(NamedTuple):
 
     line: int
     wanted: str
+    shown: int  # the line of the file
 
     @property
     def is_moved(self) -> bool:
-        return self.wanted.isdigit() and int(self.wanted) != self.line
+        return self.wanted.isdigit() and int(self.wanted) != self.shown
 
 
 class NoPlace(RewindError):
@@ -28,14 +29,15 @@ def place_of(program: Program, wanted: str) -> Breakpoint:
     if wanted.isdigit():
         place = program.statement_at(int(wanted))
         if place is None:
-            raise NoPlace(f"no statement begins on line {wanted} or after it: the source has {len(program.lines)} lines")
-        return Breakpoint(place, wanted)
+            raise NoPlace(f"no statement begins on line {wanted} or after it: the source has {len(program.shown_lines)} lines")
+        return Breakpoint(place, wanted, program.shown(place))
     function = program.functions.get(wanted)
     if function is None:
         raise NoPlace(f"there is no function {wanted}: the functions are {', '.join(sorted(program.functions))}")
     inside = program.statements_between(function.line, function.last_line)
     after = [line for line in inside if line > function.line]
-    return Breakpoint((after or inside)[0], wanted)
+    line = (after or inside)[0]
+    return Breakpoint(line, wanted, program.shown(line))
 
 
 class Breakpoints:
@@ -53,7 +55,7 @@ class Breakpoints:
 
     def note(self, line: int) -> None:
         """Takes account of a breakpoint that a command has set."""
-        self.by_line[line] = Breakpoint(line, str(line))
+        self.by_line[line] = Breakpoint(line, str(line), self.session.program.shown(line))
 
     def set(self, wanted: str) -> Breakpoint:
         """Sets a breakpoint on a line or at a function."""
@@ -62,7 +64,8 @@ class Breakpoints:
         self.by_line[found.line] = found
         return found
 
-    def clear(self, line: int) -> bool:
-        """Removes a breakpoint; whether there was one."""
+    def clear(self, wanted: int) -> bool:
+        """Removes a breakpoint from a line of the file; whether there was one."""
+        line = next((line for line, one in self.by_line.items() if one.shown == wanted), wanted)
         self.session.core.clear_breakpoint(line)
         return self.by_line.pop(line, None) is not None

@@ -5,6 +5,7 @@ import json
 import os
 import shutil
 import subprocess
+from collections.abc import Sequence
 from typing import Any, NamedTuple, Optional
 
 from .errors import SourceRefused
@@ -18,7 +19,7 @@ OF_GO = frozenset(("go", "syntax"))
 
 
 class CarriedProgram(Program):
-    """A program that was carried over. The text of a line is that of the source, where the line comes from there."""
+    """A program that was carried over. Where a line comes from the source, its number and its text are those of the source."""
 
     def __init__(self, told: dict[str, Any], source: bytes, path: str) -> None:
         super().__init__(told["text"].encode("utf-8"), path)
@@ -34,13 +35,26 @@ class CarriedProgram(Program):
     def line(self, number: int) -> str:
         """The text of a line; that of a function that stands elsewhere in the source tells its line there."""
         source = self.sources.get(number)
-        if source is None:
-            return super().line(number)
-        text = " ".join(self.source_lines[source - 1].split())
-        return text if source == number else f"{text} (line {source})"
+        return super().line(number) if source is None else " ".join(self.source_lines[source - 1].split())
+
+    @property
+    def shown_lines(self) -> list[str]:
+        return self.source_lines
 
     def shown(self, line: int) -> int:
-        return self.sources.get(line, line)
+        return self.sources.get(line, 0)
+
+    def where(self, line: int) -> str:
+        source = self.shown(line)
+        return f"line {source}" if source else f"line {line} of what is run"
+
+    def outside(self, functions: Sequence[str], line: int) -> tuple[Sequence[str], int]:
+        while len(functions) > 1 and line and line not in self.sources:
+            calls = self.calling_lines(functions[1], functions[0])
+            if len(calls) != 1:
+                break
+            functions, line = functions[1:], calls[0]
+        return functions, line
 
     def statement_at(self, line: int) -> Optional[int]:
         """The line on which a statement of this line of the source begins, or of the next one."""

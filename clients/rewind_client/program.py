@@ -7,6 +7,7 @@ from __future__ import annotations
 
 import re
 from bisect import bisect_left
+from collections.abc import Sequence
 from typing import Optional
 
 from .errors import RewindError
@@ -41,9 +42,26 @@ class Program:
         """The text of a line with single spaces in it; an empty text where there is no such line."""
         return " ".join(self.lines[number - 1].split()) if 0 < number <= len(self.lines) else ""
 
+    @property
+    def shown_lines(self) -> list[str]:
+        """The lines of the file."""
+        return self.lines
+
     def shown(self, line: int) -> int:
-        """The line of the file that a line of the program stands for."""
+        """The line of the file from which a line of the program comes, or 0."""
         return line
+
+    def where(self, line: int) -> str:
+        """Where a line stands, in words."""
+        return f"line {line}"
+
+    def at(self, line: int) -> str:
+        """A line in words, with its text."""
+        return f"{self.where(line)}: {self.line(line)}"
+
+    def outside(self, functions: Sequence[str], line: int) -> tuple[Sequence[str], int]:
+        """The frames of a goroutine and its line, without the innermost ones that do not come from the file."""
+        return functions, line
 
     def statement_at(self, line: int) -> Optional[int]:
         """The line, or the next one, on which a statement begins; none where no statement comes after it."""

@@ -162,7 +162,7 @@ class Sentences:
 
     def starved(self, one: Starved) -> Iterator[str]:
         counts = ", ".join(f"case {clause} {times(number)}" for clause, number in one.taken)
-        yield f"{one.goroutine} took {counts} at the select of line {one.place.line}, and case {one.clause} never"
+        yield f"{one.goroutine} took {counts} at the select of {self.session.program.where(one.place.line)}, and case {one.clause} never"
         yield INDENT + f"{one.waiting} waits there on {self.session.name_of(one.channel)}, since {one.since}"
         yield INDENT + f"'step {one.goroutine} {one.clause}' takes case {one.clause}, when {one.goroutine} stands at the select"
 
@@ -171,7 +171,7 @@ class Sentences:
     def at(self, place: Place) -> str:
         if not place.line:
             return "a line that is not known"
-        return f"line {place.line}: {self.session.program.line(place.line)}"
+        return self.session.program.at(place.line)
 
     def callers(self, places: Sequence[Place]) -> Iterator[str]:
         for place in places[:5]:

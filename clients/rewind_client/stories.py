@@ -73,7 +73,8 @@ class Stories:
             return "done"
         function = goroutine.frames[0].function if goroutine.frames else "?"
         state = goroutine.state.value
-        return f"{state} at line {goroutine.line} of {function}: {self.session.program.line(goroutine.line)}"
+        program = self.session.program
+        return f"{state} at {program.where(goroutine.line)} of {function}: {program.line(goroutine.line)}"
 
     def channel(self, channel: Channel) -> str:
         """A channel and its queues: `open, 1 of 2 items: 3; g0.1 waits to send 4`."""

@@ -101,7 +101,7 @@ class Console(Handlers):
         if is_ok(reply):
             debuggee.breakpoints.note_command(["break", str(found.line)])
         if found.is_moved or not wanted.isdigit():
-            reply = reply + [f"The breakpoint is on line {found.line}: {debuggee.session.program.line(found.line)}"]
+            reply = reply + [f"The breakpoint is on {debuggee.session.program.at(found.line)}"]
         return said("\n".join(reply))
 
     def after_command(self, debuggee: Debuggee, words: list[str], last: str) -> None:

@@ -114,7 +114,7 @@ def with_filters(session: Session, stop: Stop, filters: AbstractSet[Filter]) -> 
         return stop
     lines = [f"leak: {'1 goroutine is' if len(left) == 1 else f'{len(left)} goroutines are'} blocked for ever"]
     places = [(fate.goroutine, fate.place.line) for fate in left[:LISTED]]
-    lines += [f"{name} at line {line}: {session.program.line(line)}" for name, line in places]
+    lines += [f"{name} at {session.program.at(line)}" for name, line in places]
     return Stop("exception", left[0].goroutine, "Leak: main has returned", "\n".join(lines), name="Leak")
 
 

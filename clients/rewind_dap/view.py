@@ -138,8 +138,11 @@ class View:
         number = self.next_number()
         self.frames[number] = place
         body: Body = {"id": number, "name": name, "line": 0, "column": 0, "presentationHint": hint}
-        if line:
-            body.update({"line": self.session.program.shown(line) + self.first_line - 1, "column": self.first_column, "source": self.described})
+        shown = self.session.program.shown(line)
+        if shown:
+            body.update({"line": shown + self.first_line - 1, "column": self.first_column, "source": self.described})
+        elif line:
+            body.update({"name": f"{name} (added by rewind-carry)", "presentationHint": "subtle"})
         return body
 
     def place(self, number: int) -> FramePlace:

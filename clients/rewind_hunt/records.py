@@ -41,19 +41,19 @@ def record_of(hunted: Hunt, told: Sequence[Told], report: Report, searched: Opti
         "search": {"answer": ANSWERS[searched.answer], "commands": list(searched.commands)} if searched else None,
         "seed": hunted.plan.seed,
         "schedules": len(hunted.outcomes),
-        "ends": list(ends(hunted)),
+        "ends": list(ends(hunted, report)),
         "schedulers": list(schedulers(hunted)),
         "found": [found_as(report, one) for one in told],
     }
 
 
-def ends(hunted: Hunt) -> Iterator[Record]:
+def ends(hunted: Hunt, report: Report) -> Iterator[Record]:
     """The ways to end, with how many schedules came to each."""
     for row, outcomes in hunted.rows().items():
         yield {
             "end": row.end.value,
             "fault": row.fault,
-            "lines": sorted({spot.line for spot in row.spots}),
+            "lines": report.lines(row.spots),
             "leaks": row.leaks,
             "printed": list(outcomes[0].console),
             "times": len(outcomes),
@@ -71,7 +71,7 @@ def found_as(report: Report, told: Told) -> Record:
     return {
         "kind": told.found.kind.value,
         "fault": told.found.fault,
-        "places": [place_of(spot) for spot in told.found.spots],
+        "places": [place_of(report, spot) for spot in told.found.spots],
         "times": len(told.outcomes),
         "message": report.title(told.found, told.outcomes),
         "commands": list(told.short.commands) if told.short else None,
@@ -79,8 +79,9 @@ def found_as(report: Report, told: Told) -> Record:
     }
 
 
-def place_of(spot: Spot) -> Record:
-    return {"function": spot.functions[0] if spot.functions else "", "line": spot.line}
+def place_of(report: Report, spot: Spot) -> Record:
+    functions, line = report.program.outside(spot.functions, spot.line)
+    return {"function": functions[0] if functions else "", "line": report.program.shown(line)}
 
 
 def failure(name: str, status: int, why: str) -> Record:

@@ -4,7 +4,7 @@ from __future__ import annotations
 import os
 import re
 import shlex
-from collections.abc import Iterator, Sequence
+from collections.abc import Iterable, Iterator, Sequence
 from typing import Optional
 
 from rewind_client.explanations import explain
@@ -95,7 +95,7 @@ class Report:
             return "ended, not as expected" if any(map(self.found.is_unexpected, outcomes)) else "ended"
         if row.end is End.UNENDED:
             return "unended"
-        lines = sorted({spot.line for spot in row.spots})
+        lines = self.lines(row.spots)
         at = f" at line{'' if len(lines) == 1 else 's'} {', '.join(map(str, lines[:MOST_SPOTS]))}"
         return (FAULTS.get(row.fault, row.fault) if row.end is End.FAULT else "deadlock") + at * bool(lines)
 
@@ -150,11 +150,17 @@ class Report:
 
     def spot(self, spot: Spot) -> str:
         """Where a goroutine stands."""
-        function = spot.functions[0] if spot.functions else "no function"
-        if not spot.line:
+        functions, line = self.program.outside(spot.functions, spot.line)
+        function = functions[0] if functions else "no function"
+        if not line:
             return f"{function}, which goes on for ever"
-        callers = ", called from " + ", ".join(spot.functions[1:4]) if len(spot.functions) > 1 else ""
-        return f"{function} at line {spot.line} ({shortened(self.program.line(spot.line))}){callers}"
+        callers = ", called from " + ", ".join(functions[1:4]) if len(functions) > 1 else ""
+        return f"{function} at {self.program.where(line)} ({shortened(self.program.line(line))}){callers}"
+
+    def lines(self, spots: Iterable[Spot]) -> list[int]:
+        """The lines of the file at which goroutines stand."""
+        shown = {self.program.shown(self.program.outside(spot.functions, spot.line)[1]) for spot in spots}
+        return sorted(shown - {0})
 
     # A script.
 
@@ -177,7 +183,7 @@ class Report:
             is_run = one.command.startswith("run ")
             times = f" ({one.times} times)" if one.times > 1 else ""
             command = "" if is_run and one.command == before else one.command + ("" if is_run else times)
-            place = f"line {one.line}: {shortened(self.program.line(one.line))}" if one.line != line else ""
+            place = f"{self.program.where(one.line)}: {shortened(self.program.line(one.line))}" if one.line != line else ""
             yield f"{command:<21} {one.sentence + (times if is_run else ''):<52} {place}".rstrip()
             before, line = one.command, one.line
 

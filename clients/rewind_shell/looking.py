@@ -4,12 +4,14 @@ from __future__ import annotations
 from collections.abc import Callable
 from typing import Optional
 
+from rewind_client.carried import CarriedProgram
 from rewind_client.direct import DirectCauses
 from rewind_client.explanations import explain
 from rewind_client.expressions import evaluated
 from rewind_client.follower import NOTED
 from rewind_client.names import is_channel, is_goroutine, is_step, step_number, step_of, step_owner
 from rewind_client.notes import Note
+from rewind_client.program import Program
 from rewind_client.replies import Goroutine
 from rewind_client.sentences import Sentences
 from rewind_client.stories import Stories, relation
@@ -41,6 +43,7 @@ class Looking:
             "why": self.why,
             "bt": self.frames,
             "list": self.source,
+            "carried": self.carried,
             "print": self.print,
             "history": self.history,
             "direct": self.direct,
@@ -149,7 +152,7 @@ class Looking:
         stories = Stories(self.shell.session)
         self.screen.say(f"{goroutine.name}: {stories.goroutine(goroutine)}")
         for number, (frame, place) in enumerate(zip(goroutine.frames, self.shell.session.places(goroutine))):
-            at = f"line {place.line}: {self.shell.program.line(place.line)}" if place.line else "line not known"
+            at = self.shell.program.at(place.line) if place.line else "line not known"
             self.screen.say(f"#{number} {frame.function}, {at}")
             values = [f"{it.name}={stories.value(it.value)}" for it in frame.variables]
             if values:
@@ -157,9 +160,9 @@ class Looking:
 
     def source(self, words: list[str]) -> None:
         program, goroutine = self.shell.program, self.shell.session.goroutine(self.shell.chosen)
-        here = goroutine.line if goroutine else 0
+        here = self.shown_of(goroutine) if goroutine else 0
         if words and not words[0].isdigit():
-            line = program.heading(words[0])
+            line = program.shown(program.heading(words[0]))
             if not line:
                 self.screen.say("list wants a line or a function: list 12, list main", "error")
                 return
@@ -167,14 +170,34 @@ class Looking:
             line = int(words[0]) if words else here or 1
         standing: dict[int, list[str]] = {}
         for one in self.shell.session.goroutines():
-            standing.setdefault(one.line, []).append(one.name)
-        stops = self.shell.breakpoints.lines()
-        last = min(len(program.lines), line + AROUND)
+            standing.setdefault(self.shown_of(one), []).append(one.name)
+        stops = {program.shown(line) for line in self.shell.breakpoints.lines()}
+        last = min(len(program.shown_lines), line + AROUND)
         for number in range(max(1, line - AROUND), last + 1):
             mark = "=>" if number == here else " *" if number in stops else "  "
             names = "   <- " + " ".join(standing[number][:8]) if number in standing else ""
-            text = program.lines[number - 1].rstrip().replace("\t", "    ")
+            text = program.shown_lines[number - 1].rstrip().replace("\t", "    ")
             self.screen.row(f"{mark} {number:4}  {text}{names}", "source" if number == here else "")
+
+    def shown_of(self, goroutine: Goroutine) -> int:
+        """The line of the source at which a goroutine stands, or from which it called what stands elsewhere."""
+        program = self.shell.program
+        shown = [program.shown(place.line) for place in self.shell.session.places(goroutine)] if goroutine.frames else []
+        return next((line for line in shown if line), program.shown(goroutine.line))
+
+    def carried(self, words: list[str]) -> None:
+        """What is run in place of a source that was carried over, around a line of the source."""
+        program = self.shell.program
+        if not isinstance(program, CarriedProgram) or (words and not words[0].isdigit()):
+            is_carried = isinstance(program, CarriedProgram)
+            self.screen.say("carried wants a line of the source: carried 12" if is_carried else "the source itself is run", "note")
+            return
+        goroutine = self.shell.session.goroutine(self.shell.chosen)
+        wanted = int(words[0]) if words else self.shown_of(goroutine) if goroutine else 1
+        line = program.statement_at(wanted) or len(program.lines)
+        for number in range(max(1, line - AROUND), min(len(program.lines), line + AROUND) + 1):
+            text = program.lines[number - 1].rstrip().replace("\t", "    ")
+            self.screen.row(f"{program.shown(number) or '':6}  {text}", "source" if number == line else "")
 
     def print(self, words: list[str]) -> None:
         text = " ".join(words)
@@ -245,7 +268,7 @@ class Looking:
         if (wanted.isdigit() or wanted == "all") and left_out > 0:
             self.screen.say(f"({left_out} steps before these)", "faint")
         for note in chosen:
-            self.screen.row(row(stories, self.shell.program.line(note.line), note))
+            self.screen.row(row(stories, self.shell.program, note))
             if self.shell.interrupts.pending():
                 return
         if not wanted.isdigit() or int(wanted) > len(chosen):
@@ -288,7 +311,7 @@ class Looking:
     def about(self, stories: Stories, step: str, notes: dict[str, Note], related: str) -> None:
         """A step, and what it was to another one."""
         note = notes.get(step)
-        told = row(stories, self.shell.program.line(note.line), note) if note else step
+        told = row(stories, self.shell.program, note) if note else step
         self.screen.row(f"{'    ' if related else ''}{told}")
         if related:
             self.screen.say("        " + related, "faint")
@@ -298,8 +321,8 @@ def used(word: Word) -> str:
     return f"{word.use}{f' ({word.short})' if word.short else ''}"
 
 
-def row(stories: Stories, text: str, note: Note) -> str:
+def row(stories: Stories, program: Program, note: Note) -> str:
     """A step with its kind, line and statement, and what it did."""
-    did = stories.step(note)
+    did, text = stories.step(note), program.line(note.line)
     shown = text if len(text) <= SHOWN_TEXT else text[: SHOWN_TEXT - 2] + ".."
-    return f"{note.step:<8} {note.kind!s:<11} {note.line:4}: {shown:<30} {did}".rstrip()
+    return f"{note.step:<8} {note.kind!s:<11} {program.shown(note.line) or '':4}: {shown:<30} {did}".rstrip()

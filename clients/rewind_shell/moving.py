@@ -136,7 +136,7 @@ class Moving:
 
     def sentence(self, stop: Stop) -> str:
         if stop.reason is StopReason.BREAKPOINT:
-            return f"Breakpoint on line {stop.line}: {stop.goroutine} comes to {self.shell.program.line(stop.line)}"
+            return f"Breakpoint on {self.shell.program.where(stop.line)}: {stop.goroutine} comes to {self.shell.program.line(stop.line)}"
         if stop.reason is StopReason.ENTRY:
             return "The start of the program."
         if stop.reason is StopReason.COUNT and stop.ran:
@@ -226,7 +226,7 @@ class Moving:
         breakpoints = self.shell.breakpoints
         if not words:
             for one in breakpoints.all():
-                self.screen.say(f"line {one.line}: {self.shell.program.line(one.line)}")
+                self.screen.say(self.shell.program.at(one.line))
             if not breakpoints.all():
                 self.screen.say("no breakpoint is set; 'break 12' or 'break main' sets one")
             return
@@ -238,7 +238,7 @@ class Moving:
         self.screen.reply(["ok"])
         if found.is_moved or not wanted.isdigit():
             why = "moved to" if found.is_moved else "set on"
-            self.screen.say(f"The breakpoint is {why} line {found.line}: {self.shell.program.line(found.line)}", "note")
+            self.screen.say(f"The breakpoint is {why} {self.shell.program.at(found.line)}", "note")
 
     def clear(self, words: list[str]) -> None:
         if len(words) != 1 or not words[0].isdigit() or not int(words[0]):

@@ -181,7 +181,7 @@ class Shell:
             last = session.log()[-1]
             shown = session.goroutine(step_owner(last.step))
             line = shown.line if shown else 0
-            place = f"{step_owner(last.step)} at line {line}: {self.program.line(line)}"
+            place = f"{step_owner(last.step)} at {self.program.at(line)}"
             return f"{FAULTS.get(last.kind.fault, last.kind.fault)}, in {place} ('why' tells more)"
         if standing is Standing.ENDED:
             number = sum(it.state is not State.DONE for it in session.goroutines())
@@ -316,7 +316,7 @@ class Shell:
         self.breakpoints = Breakpoints(self.session)
         for one in before:
             try:
-                self.breakpoints.set(str(one.line))
+                self.breakpoints.set(str(one.shown))
             except NoPlace as fault:
                 self.screen.say(f"the breakpoint on line {one.line} is gone: {fault}", "note")
         self.tell_saved()

@@ -35,6 +35,7 @@ LOOKING = [
     Word("channels", "cs", "channels", "each channel with its name in the source, its items and who waits", most=0),
     Word("bt", "where", "bt [G]", "the frames of a goroutine, each with its line and variables", most=1),
     Word("list", "l", "list [LINE | FUNCTION]", "the source around a line, with who stands there", most=1),
+    Word("carried", "", "carried [LINE]", "what is run in place of a source that was carried over, around a line of the source", most=1),
     Word(
         "print",
         "p",
