@@ -28,7 +28,10 @@ func (f *function) packageCall(it *ast.CallExpr, object *types.Func) []Value {
 	name := object.Pkg().Path() + "." + object.Name()
 	do := packageCalls[name]
 	if do == nil {
-		f.refuse(it, "packages", object.Pkg().Name()+"."+object.Name()+" is not carried", "pass what it gives as a number")
+		if result, ok := object.Type().(*types.Signature); ok && result.Results().Len() > 0 && result.Results().At(0).Type() == types.Typ[types.String] {
+			f.refuse(it, "texts", "a text that is made while the program runs is not carried", "hand its numbers on, and write the text where it is printed")
+		}
+		f.refuse(it, "packages", object.Pkg().Name()+"."+object.Name()+" is not carried", "leave it out, or pass what it gives as a number")
 	}
 	return do(f, it)
 }

@@ -20,7 +20,7 @@ func (f *function) variable(object types.Object, node ast.Node) place {
 	if known == nil {
 		known = f.globals[object]
 	}
-	if known == nil || f.bad[object] {
+	if known == nil {
 		if !f.bad[object] && f.told.IsCarried() {
 			f.refuse(node, "variables", object.Name()+" is not carried, since what it is declared with is not", "")
 		}

@@ -201,6 +201,7 @@ func (f *function) format(it *ast.CallExpr, args []ast.Expr) {
 		f.refuse(it, "printing", "a format that is not constant is not carried", "write the format where it is used")
 	}
 	text := constant.StringVal(known.Value)
+	f.checkVerbs(it, text)
 	printed, exact := f.formatted(it, text, f.items(args[1:], verbsOf(text)))
 	if exact {
 		f.carry(it, "printing", "a line of println, with its values")
@@ -210,6 +211,15 @@ func (f *function) format(it *ast.CallExpr, args []ast.Expr) {
 	for _, line := range printed {
 		for _, one := range lines([][]item{line}) {
 			f.line(it, one)
+		}
+	}
+}
+
+// checkVerbs refuses verbs that are not carried, whatever values go with them.
+func (f *function) checkVerbs(node ast.Node, format string) {
+	for _, verb := range verbsOf(format) {
+		if !strings.ContainsRune("dvstqw+", verb) {
+			f.refuse(node, "printing", "this verb of a format is not carried", "use %d, %v, %s, %q or %t")
 		}
 	}
 }
@@ -280,8 +290,8 @@ func (f *function) formattedLine(node ast.Node, text string, values [][]item, ne
 		verb := strings.TrimLeft(text[at+1:], flags)
 		width := len(text) - at - len(verb)
 		exact = exact && width == 1
-		if verb == "" || !strings.ContainsRune("dvstq%w", rune(verb[0])) {
-			f.refuse(node, "printing", "this verb of a format is not carried", "use %d, %v, %s, %q or %t")
+		if verb == "" {
+			f.refuse(node, "printing", "the format ends within a verb", "write %% for a percent sign")
 		}
 		at += width
 		if verb[0] == '%' {

@@ -63,6 +63,9 @@ func hasClauses(it *ast.BlockStmt) bool {
 // loseNames marks the variables that a statement declares as not carried, so that their uses are not noted, too.
 func (f *function) loseNames(stmt ast.Stmt) {
 	ast.Inspect(stmt, func(node ast.Node) bool {
+		if _, ok := node.(*ast.FuncLit); ok {
+			return false
+		}
 		if name, ok := node.(*ast.Ident); ok {
 			if object, ok := f.src.Info.Defs[name].(*types.Var); ok && f.bound[object] == nil {
 				f.bad[object] = true
@@ -157,13 +160,29 @@ func (f *function) declareSpec(spec *ast.ValueSpec) {
 		}
 		return
 	}
+	isKnown := f.attempt(spec, func() { f.checkType(spec.Type) })
 	values := f.arguments(spec.Values)
+	if !isKnown {
+		panic(obstacle{})
+	}
 	for at, name := range spec.Names {
 		value := values[at]
 		if object := f.src.Info.Defs[name]; object != nil {
 			value = f.fitVariable(value, object, name)
 		}
 		f.declare(name, value)
+	}
+}
+
+// checkType refuses a type that is written down and not carried, whatever value goes with it.
+func (f *function) checkType(e ast.Expr) {
+	if e == nil {
+		return
+	}
+	switch under(f.typeOf(e)).(type) {
+	case *types.Slice, *types.Signature:
+	default:
+		f.shapeOf(f.typeOf(e), e)
 	}
 }
 
