@@ -220,6 +220,9 @@ func split(shapes []Shape, codes []string) []Value {
 // method calls a method: of a tool, or of a type of the program.
 func (f *function) method(it *ast.CallExpr, selector *ast.SelectorExpr, choice *types.Selection) []Value {
 	object := choice.Obj().(*types.Func)
+	if concrete := f.onlyType(choice.Recv()); concrete != nil {
+		return f.ofOnlyType(it, selector, concrete, object.Name())
+	}
 	if known := f.declared[object]; known != nil {
 		receiver := f.receiver(selector, known.sign.Recv().Type(), choice)
 		var arguments []Value

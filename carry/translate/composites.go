@@ -81,6 +81,9 @@ func (f *function) listParts(node ast.Node, value Value, list List, t types.Type
 
 // speaker is the method by which fmt writes values of a type: Error or String. It is nil where there is none.
 func (f *function) speaker(t types.Type) *body {
+	if concrete := f.onlyType(t); concrete != nil {
+		t = concrete
+	}
 	for _, name := range []string{"Error", "String"} {
 		if t == nil {
 			break

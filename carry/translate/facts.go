@@ -410,12 +410,30 @@ func (f *facts) findUsesOf(it *body) {
 		case *types.Var:
 			f.useVariable(it, object)
 		case *types.Func:
-			if other := f.declared[object]; other != nil {
+			for _, other := range f.calledBy(object) {
 				it.uses[other] = true
 			}
 		}
 		return true
 	})
+}
+
+// calledBy are the functions that a use of a function may call: of a method of an interface all of this name.
+func (f *facts) calledBy(object *types.Func) []*body {
+	if known := f.declared[object]; known != nil {
+		return []*body{known}
+	}
+	receiver := object.Type().(*types.Signature).Recv()
+	if receiver == nil || object.Pkg() != f.src.Pkg {
+		return nil
+	}
+	var found []*body
+	for other, it := range f.declared {
+		if it.sign.Recv() != nil && other.Name() == object.Name() {
+			found = append(found, it)
+		}
+	}
+	return found
 }
 
 func (f *facts) useVariable(it *body, object *types.Var) {

@@ -53,7 +53,7 @@ func init() {
 		"golang.org/x/sync/errgroup.WithContext": groupWithContext,
 		"sync.NewCond":                           newCond,
 		"math/rand.Intn":                         chooses, "math/rand.Int31n": chooses, "math/rand.Int63n": chooses, "math/rand.Seed": nothing,
-		"runtime.Gosched": nothing, "runtime.GOMAXPROCS": nothing, "runtime.GC": nothing,
+		"runtime.Gosched": nothing, "runtime.GOMAXPROCS": processors, "runtime.NumCPU": processors, "runtime.GC": nothing,
 		"os.Exit": exits,
 	}
 	for _, size := range []string{"Int32", "Int64", "Uint32", "Uint64"} {
@@ -68,6 +68,13 @@ func init() {
 func noPrefix(f *function, it *ast.CallExpr) []Value {
 	f.change(it, "printing", "the prefix is left away")
 	return nil
+}
+
+// processors is the number of processors: one that is small, since goroutines are often started for each.
+func processors(f *function, it *ast.CallExpr) []Value {
+	f.change(it, "processors", "there are 2 processors here; how many there are does not say how goroutines may go")
+	f.all(it.Args)
+	return []Value{number(2)}
 }
 
 func nothing(f *function, it *ast.CallExpr) []Value { return nil }

@@ -45,6 +45,10 @@ func (f *function) shapeOf(t types.Type, node ast.Node) Shape {
 	case *types.Signature:
 		f.refuse(node, "functions", "a function value that is not known here is not carried", "call the function by its name")
 	case *types.Interface:
+		if concrete := f.onlyType(t); concrete != nil {
+			f.change(node, "interfaces", "one type alone has the methods of this interface: it stands for it")
+			return f.shapeOf(concrete, node)
+		}
 		f.refuse(node, "interfaces", "interfaces are not carried, but for error", "use the type that stands behind it")
 	}
 	f.refuse(node, "types", "the type "+types.TypeString(t, types.RelativeTo(f.src.Pkg))+" is not carried", "use int or bool")
