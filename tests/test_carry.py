@@ -15,7 +15,7 @@ from pathlib import Path
 
 import pytest
 
-from support.carried import CARRY, Outcome, Schedules, built, carried, of_go
+from support.carried import CARRY, Coarse, Outcome, Schedules, built, carried, of_go
 from support.forms import short_first
 from support.go_sources import go_source
 from support.places import TOP
@@ -247,7 +247,7 @@ def test_a_random_program(number: int, rewind: str, tmp_path: Path, pytestconfig
     made = built(path, tmp_path)
     runs = RUNS if pytestconfig.getoption("--full") else RUNS // 10
     left = {of_go(made, (1, 2, None)[it % 3]) for it in range(runs)}
-    outcomes, schedules = len(left), Schedules(rewind, out)
+    outcomes, schedules = len(left), Schedules(rewind, out, Coarse)
     try:
         tries = 0
         while left and tries < MOST_TRIES:

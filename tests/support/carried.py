@@ -4,18 +4,20 @@ from __future__ import annotations
 import os
 import subprocess
 from collections import Counter
+from collections.abc import Iterable, Sequence
 from pathlib import Path
 from typing import NamedTuple, Optional
 
 import pytest
 from rewind_client.finding import start
 from rewind_client.program import read_program
-from rewind_hunt.schedules import End, Scheduler
+from rewind_hunt.schedules import End, Manner, Scheduler
 
 from support.places import TOP
 
 CARRY = TOP / "bin" / "rewind-carry"
 MOST_STEPS = 6000
+LONGEST_BURST = 600
 RUN_SECONDS = 3
 ASLEEP = "fatal error: all goroutines are asleep - deadlock!"
 
@@ -40,11 +42,22 @@ def carried(path: Path, to: Path, *options: str) -> subprocess.CompletedProcess[
     return subprocess.run([CARRY, path, "-o", to, *options], capture_output=True, text=True, timeout=20, check=False)
 
 
+class Coarse(Scheduler):
+    """Takes every second schedule in bursts of very different lengths: in a run of Go few goroutines are interrupted."""
+
+    def manner_of(self, number: int) -> Manner:
+        return Manner.BURSTS if number % 2 else super().manner_of(number)
+
+    def burst(self, names: Sequence[str]) -> Iterable[str]:
+        name = self.random.choice(names)
+        return [self.step(name) for _ in range(int(LONGEST_BURST ** self.random.random()))]
+
+
 class Schedules:
     """Random schedules of a carried program, as outcomes."""
 
-    def __init__(self, program: str, path: Path) -> None:
-        self.scheduler = Scheduler(lambda: start(program, str(path)), read_program(str(path)), 1, MOST_STEPS)
+    def __init__(self, program: str, path: Path, kind: type[Scheduler] = Scheduler) -> None:
+        self.scheduler = kind(lambda: start(program, str(path)), read_program(str(path)), 1, MOST_STEPS)
 
     def outcome(self, number: int) -> Optional[Outcome]:
         """The outcome of a schedule, or None where it does not end soon."""
