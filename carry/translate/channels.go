@@ -2,6 +2,8 @@ package translate
 
 import (
 	"go/ast"
+	"go/token"
+	"go/types"
 	"strings"
 )
 
@@ -128,36 +130,37 @@ func (f *function) send(it *ast.SendStmt) {
 	f.emit(to + " <- " + f.packet(value))
 }
 
+// A case of a select that is ready to be written: its head, and what its body begins with, or nil.
+type ready struct {
+	head  string
+	begin func()
+}
+
+// readied finds what a case of a select works on.
+func (f *function) readied(comm *ast.CommClause) ready {
+	switch stmt := comm.Comm.(type) {
+	case *ast.SendStmt:
+		sides := f.all([]ast.Expr{stmt.Chan, stmt.Value})
+		value := f.fit(sides[1], sides[0].Shape.(Chan).Elem, stmt)
+		return ready{head: "case " + f.steady(sides[0]) + " <- " + f.packet(value) + ":"}
+	case *ast.ExprStmt:
+		channel := f.value(unparen(stmt.X).(*ast.UnaryExpr).X)
+		return ready{head: "case <-" + f.steady(channel) + ":"}
+	case *ast.AssignStmt:
+		channel := f.value(unparen(stmt.Rhs[0]).(*ast.UnaryExpr).X)
+		head, begin := f.clauseOf(stmt, channel)
+		return ready{head, begin}
+	}
+	return ready{head: "default:"}
+}
+
 // selects translates a select. What its cases work on is found before it, in their order.
 func (f *function) selects(it *ast.SelectStmt, label string) {
-	type ready struct {
-		head  string
-		begin func()
-	}
 	var cases []ready
-	for _, clause := range it.Body.List {
-		comm := clause.(*ast.CommClause)
-		f.at = comm.Pos()
-		cases = append(cases, ready{})
-		last := &cases[len(cases)-1]
-		at := it.Pos()
-		f.at = at
-		switch stmt := comm.Comm.(type) {
-		case nil:
-			last.head = "default:"
-		case *ast.SendStmt:
-			sides := f.all([]ast.Expr{stmt.Chan, stmt.Value})
-			value := f.fit(sides[1], sides[0].Shape.(Chan).Elem, stmt)
-			last.head = "case " + f.steady(sides[0]) + " <- " + f.packet(value) + ":"
-		case *ast.ExprStmt:
-			channel := f.value(unparen(stmt.X).(*ast.UnaryExpr).X)
-			last.head = "case <-" + f.steady(channel) + ":"
-		case *ast.AssignStmt:
-			channel := f.value(unparen(stmt.Rhs[0]).(*ast.UnaryExpr).X)
-			last.head, last.begin = f.clauseOf(stmt, channel)
-		}
-	}
 	f.at = it.Pos()
+	for _, clause := range it.Body.List {
+		cases = append(cases, f.readied(clause.(*ast.CommClause)))
+	}
 	f.labelled(label)
 	f.open("select {")
 	f.breaks = append(f.breaks, target{label: label, out: f.labelOf(label)})
@@ -215,4 +218,36 @@ func (f *function) clauseOf(stmt *ast.AssignStmt, channel Value) (string, func()
 		}
 	}
 	return "case " + names + " := <-" + operand + ":", begin
+}
+
+// receiveTwo is `v, ok := <-c`. New names that are not shared take both themselves.
+func (f *function) receiveTwo(it *ast.AssignStmt, arrow *ast.UnaryExpr) {
+	names := f.newNames(it)
+	if channel, ok := under(f.typeOf(arrow.X)).(*types.Chan); ok && names != nil {
+		if shape := f.shapeOf(channel.Elem(), it); len(shape.leaves()) == 1 {
+			from := f.value(arrow.X)
+			var own []string
+			for at, object := range names {
+				known := &binding{shape: []Shape{shape, Truth{}}[at], names: []string{f.name(object.Name())}}
+				f.bound[object], own = known, append(own, known.names...)
+			}
+			f.emit(commas(own) + " := <-" + from.within(unary))
+			return
+		}
+	}
+	value, open := f.receive(arrow.X, true)
+	f.assignAll(it, it.Lhs, []Value{value, single(Truth{}, open, false)})
+}
+
+// newNames are the variables that a definition declares, if all its names are new and none is shared.
+func (f *function) newNames(it *ast.AssignStmt) []types.Object {
+	var found []types.Object
+	for _, e := range it.Lhs {
+		name, ok := e.(*ast.Ident)
+		if !ok || it.Tok != token.DEFINE || f.src.Info.Defs[name] == nil || f.isShared(f.src.Info.Defs[name], f.options.SharesLoops) {
+			return nil
+		}
+		found = append(found, f.src.Info.Defs[name])
+	}
+	return found
 }

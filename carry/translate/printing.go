@@ -263,6 +263,15 @@ func (f *function) formatted(node ast.Node, format string, values [][]item) ([][
 	return found, exact
 }
 
+// widthOf is how far the letter of a verb stands behind its percent sign.
+func (f *function) widthOf(node ast.Node, text string) int {
+	verb := strings.TrimLeft(text[1:], flags)
+	if verb == "" {
+		f.refuse(node, "printing", "the format ends within a verb", "write %% for a percent sign")
+	}
+	return len(text) - len(verb)
+}
+
 func (f *function) formattedLine(node ast.Node, text string, values [][]item, next *int) ([]item, bool) {
 	var line []item
 	var open strings.Builder
@@ -287,14 +296,9 @@ func (f *function) formattedLine(node ast.Node, text string, values [][]item, ne
 			open.WriteByte(text[at])
 			continue
 		}
-		verb := strings.TrimLeft(text[at+1:], flags)
-		width := len(text) - at - len(verb)
-		exact = exact && width == 1
-		if verb == "" {
-			f.refuse(node, "printing", "the format ends within a verb", "write %% for a percent sign")
-		}
-		at += width
-		if verb[0] == '%' {
+		width := f.widthOf(node, text[at:])
+		exact, at = exact && width == 1, at+width
+		if text[at] == '%' {
 			open.WriteByte('%')
 			continue
 		}

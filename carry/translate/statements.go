@@ -100,6 +100,18 @@ func (f *function) carryOver(stmt ast.Stmt, label string) {
 		f.block(it.List)
 		f.at = it.Rbrace
 		f.close()
+	case *ast.LabeledStmt:
+		f.carryOver(it.Stmt, it.Label.Name)
+	case *ast.DeclStmt:
+		f.declaration(it.Decl.(*ast.GenDecl))
+	default:
+		f.control(stmt, label)
+	}
+}
+
+// control translates a statement that chooses or repeats.
+func (f *function) control(stmt ast.Stmt, label string) {
+	switch it := stmt.(type) {
 	case *ast.IfStmt:
 		f.ifs(it)
 	case *ast.SwitchStmt:
@@ -110,10 +122,6 @@ func (f *function) carryOver(stmt ast.Stmt, label string) {
 		f.loop(it, label)
 	case *ast.RangeStmt:
 		f.ranges(it, label)
-	case *ast.LabeledStmt:
-		f.carryOver(it.Stmt, it.Label.Name)
-	case *ast.DeclStmt:
-		f.declaration(it.Decl.(*ast.GenDecl))
 	case *ast.TypeSwitchStmt:
 		f.refuse(it, "interfaces", "a switch over types is not carried", "use the type that stands behind the interface")
 	default:
@@ -258,38 +266,6 @@ func (f *function) assign(it *ast.AssignStmt) {
 	f.assignAll(it, it.Lhs, f.arguments(it.Rhs))
 }
 
-// receiveTwo is `v, ok := <-c`. New names that are not shared take both themselves.
-func (f *function) receiveTwo(it *ast.AssignStmt, arrow *ast.UnaryExpr) {
-	names := f.newNames(it)
-	if channel, ok := under(f.typeOf(arrow.X)).(*types.Chan); ok && names != nil {
-		if shape := f.shapeOf(channel.Elem(), it); len(shape.leaves()) == 1 {
-			from := f.value(arrow.X)
-			var own []string
-			for at, object := range names {
-				known := &binding{shape: []Shape{shape, Truth{}}[at], names: []string{f.name(object.Name())}}
-				f.bound[object], own = known, append(own, known.names...)
-			}
-			f.emit(commas(own) + " := <-" + from.within(unary))
-			return
-		}
-	}
-	value, open := f.receive(arrow.X, true)
-	f.assignAll(it, it.Lhs, []Value{value, single(Truth{}, open, false)})
-}
-
-// newNames are the variables that a definition declares, if all its names are new and none is shared.
-func (f *function) newNames(it *ast.AssignStmt) []types.Object {
-	var found []types.Object
-	for _, e := range it.Lhs {
-		name, ok := e.(*ast.Ident)
-		if !ok || it.Tok != token.DEFINE || f.src.Info.Defs[name] == nil || f.isShared(f.src.Info.Defs[name], f.options.SharesLoops) {
-			return nil
-		}
-		found = append(found, f.src.Info.Defs[name])
-	}
-	return found
-}
-
 // alias binds a name to a function that it always stands for; nothing is written.
 func (f *function) alias(it *ast.AssignStmt) bool {
 	if it.Tok != token.DEFINE || len(it.Lhs) != 1 || len(it.Rhs) != 1 {
@@ -395,65 +371,4 @@ func (f *function) update(node ast.Node, to ast.Expr, op token.Token, value Valu
 		return
 	}
 	f.store(where, f.joined(op, where.shape, f.read(where), value), node)
-}
-
-// starts is `go f(..)`.
-func (f *function) starts(it *ast.GoStmt) {
-	to := f.later(it.Call)
-	f.emit("go " + to)
-}
-
-// later is a call as the language starts it: of a function with its arguments.
-func (f *function) later(call *ast.CallExpr) string {
-	fun := unparen(call.Fun)
-	if selector, ok := fun.(*ast.SelectorExpr); ok {
-		if choice := f.src.Info.Selections[selector]; choice != nil && choice.Kind() == types.MethodVal {
-			if known := f.declared[choice.Obj()]; known != nil {
-				receiver := f.receiver(selector, known.sign.Recv().Type(), choice)
-				values := f.fitAll(call, known.sign, f.arguments(call.Args), call.Ellipsis != token.NoPos)
-				return f.started(f.prepare(call, Value{Shape: Func{Body: known}}, &receiver, values))
-			}
-		}
-		if f.src.Info.Selections[selector] != nil || f.src.Info.Uses[selector.Sel].Pkg() != f.src.Pkg {
-			return f.tail(call)
-		}
-	}
-	if name, ok := fun.(*ast.Ident); ok {
-		if _, ok := f.object(name).(*types.Builtin); ok {
-			return f.tail(call)
-		}
-	}
-	called := f.function(fun)
-	if _, ok := isTool(called.Shape); ok {
-		return f.tail(call)
-	}
-	sign := called.Shape.(Func).Body.sign
-	values := f.fitAll(call, sign, f.arguments(call.Args), call.Ellipsis != token.NoPos)
-	return f.started(f.prepare(call, called, nil, values))
-}
-
-func (f *function) started(to callee) string {
-	var leaves []Leaf
-	for _, shape := range to.instance.results {
-		leaves = append(leaves, shape.leaves()...)
-	}
-	code := to.code
-	if len(leaves) > 1 {
-		code = append(append([]string{}, code...), f.channelsFor(leaves)...)
-	}
-	return to.instance.name + "(" + commas(code) + ")"
-}
-
-// tail is a call of a known package that is one call of the language.
-func (f *function) tail(call *ast.CallExpr) string {
-	before := len(f.instance.pieces)
-	f.call(call)
-	after := f.instance.pieces[before:]
-	if len(after) != 1 || !strings.HasSuffix(after[0].text, ")") || after[0].kind != plainPiece || strings.HasPrefix(after[0].text, "println") || strings.HasPrefix(after[0].text, "close") {
-		f.instance.pieces = f.instance.pieces[:before]
-		f.refuse(call, "go", "a goroutine that only does this is not carried", "write a function around it")
-	}
-	code := after[0].text
-	f.instance.pieces = f.instance.pieces[:before]
-	return code
 }

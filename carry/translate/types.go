@@ -38,6 +38,19 @@ func (f *function) shapeOf(t types.Type, node ast.Node) Shape {
 			f.refuse(node, "arrays", "an array of more than 64 elements is not carried", "use fewer")
 		}
 		return List{int(it.Len()), f.shapeOf(it.Elem(), node)}
+	case *types.Interface:
+		if concrete := f.onlyType(t); concrete != nil {
+			f.change(node, "interfaces", "one type alone has the methods of this interface: it stands for it")
+			return f.shapeOf(concrete, node)
+		}
+	}
+	f.refuseType(t, node)
+	return nil
+}
+
+// refuseType refuses a type that is not carried.
+func (f *function) refuseType(t types.Type, node ast.Node) {
+	switch under(t).(type) {
 	case *types.Slice:
 		f.refuse(node, "slices", "a slice whose length is not known here is not carried", "give it a constant length, or send its elements over a channel")
 	case *types.Map:
@@ -45,14 +58,9 @@ func (f *function) shapeOf(t types.Type, node ast.Node) Shape {
 	case *types.Signature:
 		f.refuse(node, "functions", "a function value that is not known here is not carried", "call the function by its name")
 	case *types.Interface:
-		if concrete := f.onlyType(t); concrete != nil {
-			f.change(node, "interfaces", "one type alone has the methods of this interface: it stands for it")
-			return f.shapeOf(concrete, node)
-		}
 		f.refuse(node, "interfaces", "interfaces are not carried, but for error", "use the type that stands behind it")
 	}
 	f.refuse(node, "types", "the type "+types.TypeString(t, types.RelativeTo(f.src.Pkg))+" is not carried", "use int or bool")
-	return nil
 }
 
 const mostElements = 64
