@@ -74,8 +74,10 @@ func main() {
 /** @param {Hands} hands */
 async function deadlock(hands) {
   await hands.source(LOCKS);
+  const began = Date.now();
   await hands.click(".refusal-note .carry");
   await hands.until("document.querySelector('#carry-dialog').open");
+  assert.ok(Date.now() - began < 1000, "what was loaded once carries over in a second");
   await hands.click("#carry-use");
   await hands.act("search-all");
   await hands.until("/deadlock/.test(document.querySelector('#headline').textContent)");
