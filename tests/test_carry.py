@@ -69,7 +69,8 @@ def test_as_go_does(path: Path, tmp_path: Path, pytestconfig: pytest.Config) -> 
     made = built(path, tmp_path)
     runs = RUNS if pytestconfig.getoption("--full") else RUNS // 10
     found = {of_go(made, (1, 2, None)[number % 3]) for number in range(runs)}
-    assert found <= known(path), sorted(it.told() for it in found - known(path))
+    others = [it.told() for it in found if not any(own.stands_for(it) for own in known(path))]
+    assert not others, sorted(others)
 
 
 @pytest.mark.parametrize("path", REFUSED, ids=lambda it: str(it.stem))
@@ -251,7 +252,8 @@ def test_a_random_program(number: int, rewind: str, tmp_path: Path, pytestconfig
     try:
         tries = 0
         while left and tries < MOST_TRIES:
-            left.discard(schedules.outcome(tries))  # type: ignore[arg-type]
+            own = schedules.outcome(tries)
+            left = {it for it in left if not (own and own.stands_for(it))}
             tries += 1
     finally:
         schedules.scheduler.end()

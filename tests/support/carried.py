@@ -31,6 +31,13 @@ class Outcome(NamedTuple):
     def told(self) -> str:
         return " / ".join((self.end, *self.lines))
 
+    def stands_for(self, of_go: Outcome) -> bool:
+        """Whether it is the outcome of a run of Go. What is deferred runs there before a panic stops the program, and others go on
+        meanwhile, so some lines more may be printed.
+        """
+        is_stopped = self.end == of_go.end == "stopped"
+        return self == of_go or (is_stopped and not Counter(self.lines) - Counter(of_go.lines))
+
 
 def outcome(end: str, lines: list[str]) -> Outcome:
     """An outcome. Blanks between the parts of a line are not compared, since println sets its values apart."""
