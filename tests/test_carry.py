@@ -189,6 +189,12 @@ def test_lines_of_the_source_in_the_shell(two_locks: Path) -> None:
     assert "no breakpoint is set" in done.stdout, done.stdout
 
 
+def test_a_panic_in_the_shell() -> None:
+    """A panic of the source is told at its line."""
+    done = client("rewind-shell", FOLDER / "panic_in_worker.go", "run 1000\n")
+    assert 'in g0.1 at line 7: panic("division by zero in worker")' in done.stdout, done.stdout
+
+
 def test_a_search_in_the_shell(two_locks: Path) -> None:
     """A search of all schedules finds the deadlock, and `why` tells the lines of the source."""
     done = client("rewind-shell", two_locks, "search\nfollow\nwhy\n")

@@ -180,7 +180,7 @@ class Shell:
         if standing is Standing.FAULT:
             last = session.log()[-1]
             shown = session.goroutine(step_owner(last.step))
-            line = shown.line if shown else 0
+            _, line = self.program.outside([it.function for it in shown.frames], shown.line) if shown else ((), 0)
             place = f"{step_owner(last.step)} at {self.program.at(line)}"
             return f"{FAULTS.get(last.kind.fault, last.kind.fault)}, in {place} ('why' tells more)"
         if standing is Standing.ENDED:
