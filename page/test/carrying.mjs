@@ -103,6 +103,24 @@ async function breakpoint(hands) {
   assert.ok(/breakpoint in line 13/.test(await hands.text("#headline")), "the line of the source is told");
 }
 
+// What was carried over is run again behind a reload, with its steps and its breakpoint.
+/** @param {Hands} hands */
+async function reload(hands) {
+  const { browser } = hands;
+  await hands.source(LOCKS);
+  await browser.run("rewind.page.views.editor.breaks.includes(13) || rewind.toggleBreak(rewind.page, 13)");
+  await hands.perform("run 5");
+  await new Promise((go) => setTimeout(go, 400)); // until the work is kept
+  await browser.call("Page.reload");
+  await hands.until("window.started");
+  await browser.run("window.started");
+  await hands.idle();
+  assert.equal(await browser.run("rewind.page.views.editor.text"), LOCKS, "the source is there");
+  assert.equal(await browser.run("rewind.page.session.log.length"), 5, "and the steps");
+  assert.deepEqual(await browser.run("rewind.page.views.editor.breaks"), [13], "and the breakpoint");
+  assert.ok(await browser.run("Boolean(rewind.page.session.carried)"), "of what it was carried over to");
+}
+
 /** @param {Hands} hands */
 async function left(hands) {
   await hands.source(LEFT);
@@ -127,5 +145,5 @@ async function plain(hands) {
  */
 export async function realGo(t, browser, page) {
   if (!existsSync(page.replace(/[^/]*$/, "rewind-carry.js"))) return t.skip("'make carry-page' makes what carries Go over");
-  await inTurn(t, browser, { "carried and run": carried, "a deadlock": deadlock, "a breakpoint": breakpoint, "what is left": left, "nothing to carry": plain });
+  await inTurn(t, browser, { "carried and run": carried, "a deadlock": deadlock, "a breakpoint": breakpoint, "a reload": reload, "what is left": left, "nothing to carry": plain });
 }
