@@ -132,10 +132,21 @@ async function left(hands) {
   await hands.browser.run("document.querySelector('#carry-dialog').close()");
 }
 
+// Ordinary Go without packages is offered, too.
+/** @param {Hands} hands */
+async function unpackaged(hands) {
+  await hands.source("package main\nfunc main() {\n\tdone := make(chan bool)\n\tgo func() { done <- true }()\n\tprintln(<-done)\n}\n");
+  await hands.click(".refusal-note .carry");
+  await hands.until("document.querySelector('#carry-dialog').open");
+  await hands.click("#carry-use");
+  await hands.key("r");
+  assert.ok((await hands.text("#console")).includes("true"), "a function literal is carried over");
+}
+
 /** @param {Hands} hands */
 async function plain(hands) {
   await hands.source("package main\nfunc main() { x }\n");
-  assert.ok(await hands.browser.run("!document.querySelector('.refusal-note .carry')"), "a program without packages has nothing to carry");
+  assert.ok(await hands.browser.run("!document.querySelector('.refusal-note .carry')"), "what the language has has nothing to carry");
 }
 
 /**
@@ -145,5 +156,5 @@ async function plain(hands) {
  */
 export async function realGo(t, browser, page) {
   if (!existsSync(page.replace(/[^/]*$/, "rewind-carry.js"))) return t.skip("'make carry-page' makes what carries Go over");
-  await inTurn(t, browser, { "carried and run": carried, "a deadlock": deadlock, "a breakpoint": breakpoint, "a reload": reload, "what is left": left, "nothing to carry": plain });
+  await inTurn(t, browser, { "carried and run": carried, "a deadlock": deadlock, "a breakpoint": breakpoint, "a reload": reload, "without packages": unpackaged, "what is left": left, "nothing to carry": plain });
 }

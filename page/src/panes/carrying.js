@@ -6,7 +6,8 @@ import { button, counted, find, make } from "../element.js";
 /** @typedef {import("../control/page.js").Page} Page */
 /** @typedef {import("../engine/carry.js").Carried} Carried */
 
-const IMPORTS = /^\s*import\b/m;
+// What ordinary Go has and the language does not: packages, function literals and methods, types, and some statements.
+const ORDINARY = /^\s*(?:import|type|const|defer|switch)\b|\bfunc\s*\(|\bstruct\s*\{\s*\w|\[\w*\]\w|&\w/m;
 
 /** @type {Carried | null} */
 let last = null; // what was carried over last, to be run
@@ -15,12 +16,12 @@ let last = null; // what was carried over last, to be run
 /** @param {string} text */
 export const carriedOf = (text) => (last?.source === text ? last : null);
 
-// The button beside a refusal, where the source imports something.
+// The button beside a refusal, where the source looks like ordinary Go.
 /**
  * @param {Page} page
  * @param {string} text
  */
-export const carryButton = (page, text) => (IMPORTS.test(text) ? button({ class: "carry", onclick: () => carryOver(page, text) }, "Carry it over") : "");
+export const carryButton = (page, text) => (ORDINARY.test(text) ? button({ class: "carry", onclick: () => carryOver(page, text) }, "Carry it over") : "");
 
 /**
  * @param {Page} page
@@ -69,7 +70,7 @@ export function showCarried(page) {
 export async function openAgain(page) {
   if (await page.open()) return true;
   const text = page.views.editor.text;
-  const found = IMPORTS.test(text) ? await carry("source.go", text) : null;
+  const found = ORDINARY.test(text) ? await carry("source.go", text) : null;
   if (!found?.carried) return false;
   last = found;
   return page.open();
