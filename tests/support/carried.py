@@ -33,9 +33,9 @@ class Outcome(NamedTuple):
 
     def stands_for(self, of_go: Outcome) -> bool:
         """Whether it is the outcome of a run of Go. What is deferred runs there before a panic stops the program, and others go on
-        meanwhile, so some lines more may be printed.
+        meanwhile: some lines more may be printed, and `main` may even return first.
         """
-        is_stopped = self.end == of_go.end == "stopped"
+        is_stopped = self.end == "stopped" and of_go.end != "stuck"
         return self == of_go or (is_stopped and not Counter(self.lines) - Counter(of_go.lines))
 
 
