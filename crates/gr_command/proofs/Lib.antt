@@ -2,3 +2,4 @@ pub mod Cuts
 pub mod Growing
 pub mod Views
 pub mod Shown
+pub mod Naming

@@ -1,5 +1,5 @@
 -- What a line of words says.
-use Rattle.std.specs.Prelude.{ℕ, IsTrue, nat_lt, if◌then◌else◌, List, [], ◌∷◌, length, codes, Option, Some, None, option_map, option_and_then, unwrap_or}
+use Rattle.std.specs.Prelude.{ℕ, Bool, ◌||◌, is_some, IsTrue, nat_lt, if◌then◌else◌, List, [], ◌∷◌, length, codes, Option, Some, None, option_map, option_and_then, unwrap_or}
 use Rattle.std.specs.Io.BufRead.{strip_last}
 use Rattle.std.specs.List.{list_any}
 use Rattle.std.specs.Str.{bytes_eq}
@@ -120,7 +120,15 @@ abbrev pub naming : List (List ℕ)
 naming =
     codes "step" ∷ codes "back" ∷ codes "order" ∷ codes "deps" ∷ codes "causes" ∷ codes "show" ∷ codes "chan" ∷ codes "text" ∷ []
 
--- words that begin as a command with a name
+-- a word that names a goroutine, a channel or a step
+abbrev pub is_named : List ℕ → Bool
+is_named word = is_some (go_named word) || (is_some (ch_named word) || is_some (step_named word))
+
+-- one of the words names something
+abbrev pub HasNamed : List (List ℕ) → Type 0
+HasNamed words = IsTrue (list_any is_named words)
+
+-- words that begin as a command with a name, one of which names something
 abbrev pub MayName : List (List ℕ) → Type 0
 MayName [] = ⊥
-MayName (word ∷ words) = IsTrue (list_any (bytes_eq word) naming)
+MayName (word ∷ words) = IsTrue (list_any (bytes_eq word) naming) × HasNamed words

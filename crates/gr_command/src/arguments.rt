@@ -1,7 +1,8 @@
 //! What the words after the first one of a command name.
 
-ghost use Rattle.std.specs.Prelude.{◌≡◌, ◌+◌, ◌≤◌, IfOk, IfSome, option_copied, option_map};
+ghost use Rattle.std.specs.Prelude.{◌≡◌, ◌+◌, ◌≤◌, IfOk, IfSome, OnErr, option_copied, option_map};
 ghost use Rattle.gr_base.specs.Names.{with_digit, go_named, ch_named, step_named};
+ghost use Rattle.gr_command.specs.Commands.{HasNamed};
 ghost use Rattle.gr_command.specs.Words.{words_of};
 ghost use Rattle.gr_command.specs.Arguments.{number_named, number_or_zero_named, ordinal_named, steps_named, only, one_named};
 
@@ -69,7 +70,8 @@ pub(crate) fn only_word(text: &[u8]) -> Option<&[u8]>
 
 /// The goroutine that the text names, if it is one word that names one.
 pub(crate) fn only_go(alloc: Global, text: &[u8]) -> Result<Option<GoName>, NoMemory>
-    ensures { IfOk result (λ go. go ≡ one_named go_named (words_of text.now)) }
+    ensures ok { IfOk result (λ go. go ≡ one_named go_named (words_of text.now)) }
+    ensures needed { OnErr result (HasNamed (words_of text.now)) }
 {
     match only_word(text) {
         None => Ok(None),
@@ -79,7 +81,8 @@ pub(crate) fn only_go(alloc: Global, text: &[u8]) -> Result<Option<GoName>, NoMe
 
 /// The channel that the text names, if it is one word that names one.
 pub(crate) fn only_ch(alloc: Global, text: &[u8]) -> Result<Option<ChName>, NoMemory>
-    ensures { IfOk result (λ channel. channel ≡ one_named ch_named (words_of text.now)) }
+    ensures ok { IfOk result (λ channel. channel ≡ one_named ch_named (words_of text.now)) }
+    ensures needed { OnErr result (HasNamed (words_of text.now)) }
 {
     match only_word(text) {
         None => Ok(None),
@@ -89,7 +92,8 @@ pub(crate) fn only_ch(alloc: Global, text: &[u8]) -> Result<Option<ChName>, NoMe
 
 /// The step that the text names, if it is one word that names one.
 pub(crate) fn only_step(alloc: Global, text: &[u8]) -> Result<Option<StepId>, NoMemory>
-    ensures { IfOk result (λ id. id ≡ one_named step_named (words_of text.now)) }
+    ensures ok { IfOk result (λ id. id ≡ one_named step_named (words_of text.now)) }
+    ensures needed { OnErr result (HasNamed (words_of text.now)) }
 {
     match only_word(text) {
         None => Ok(None),
@@ -106,7 +110,8 @@ pub(crate) fn only_ordinal(text: &[u8]) -> Option<u32>
 
 /// The steps that the words of the text name, if each names one.
 pub(crate) fn read_steps(alloc: Global, text: &[u8]) -> Result<Option<StepList>, NoMemory>
-    ensures { IfOk result (λ ids. ids ≡ steps_named (words_of text.now)) }
+    ensures ok { IfOk result (λ ids. ids ≡ steps_named (words_of text.now)) }
+    ensures needed { OnErr result (HasNamed (words_of text.now)) }
 {
     let mut ids = Vec::new(alloc);
     let mut left = text;

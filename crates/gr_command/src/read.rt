@@ -4,7 +4,7 @@ ghost use Rattle.std.specs.Prelude.{◌≡◌, ◌∷◌, IfOk, OnErr};
 ghost use Rattle.std.specs.Io.BufRead.{strip_last};
 ghost use Rattle.gr_command.specs.Words.{words_of};
 ghost use Rattle.gr_command.specs.Commands.{alone as if_alone, about, step_asked, back_asked, order_asked, by_table, questions};
-ghost use Rattle.gr_command.specs.Commands.{commands, meaning, MayName};
+ghost use Rattle.gr_command.specs.Commands.{commands, meaning, HasNamed, MayName};
 ghost use Rattle.gr_command.specs.Arguments.{number_named, number_or_zero_named};
 ghost use Rattle.gr_command.specs.declared.command.Command.TheVariants.{Run, Free};
 
@@ -29,7 +29,8 @@ pub const GRANT_LIMIT: u64 = 1_000_000;
 
 /// A step of the goroutine that the text names, with the clause of a select if a second word names that.
 fn step(alloc: Global, text: &[u8]) -> Result<Option<Line>, NoMemory>
-    ensures { IfOk result (λ line. line ≡ step_asked (words_of text.now)) }
+    ensures ok { IfOk result (λ line. line ≡ step_asked (words_of text.now)) }
+    ensures needed { OnErr result (HasNamed (words_of text.now)) }
 {
     let Some((name, rest)) = next_word(text) else {
         return Ok(None);
@@ -67,14 +68,16 @@ fn free(text: &[u8]) -> Option<Line>
 
 /// To take a step back, if the text says which.
 fn back(alloc: Global, text: &[u8]) -> Result<Option<Line>, NoMemory>
-    ensures { IfOk result (λ line. line ≡ back_asked (words_of text.now)) }
+    ensures ok { IfOk result (λ line. line ≡ back_asked (words_of text.now)) }
+    ensures needed { OnErr result (HasNamed (words_of text.now)) }
 {
     Ok(read_target(alloc, text)?.map(|target| Line::Command(Command::Back(target))))
 }
 
 /// The command that puts the steps in the order of the text, if the text has a word and each word names a step.
 fn order(alloc: Global, text: &[u8]) -> Result<Option<Line>, NoMemory>
-    ensures { IfOk result (λ line. line ≡ order_asked (words_of text.now)) }
+    ensures ok { IfOk result (λ line. line ≡ order_asked (words_of text.now)) }
+    ensures needed { OnErr result (HasNamed (words_of text.now)) }
 {
     let Some(_) = next_word(text) else {
         return Ok(None);
@@ -174,7 +177,8 @@ fn asked(alloc: Global, word: &[u8], rest: &[u8]) -> Result<Option<Line>, NoMemo
 /// Numbers are decimal and have no leading zero. A line with no word is blank. Every other line is rejected, and so is one of
 /// more than 1,048,576 bytes.
 ///
-/// The one error is out of memory for a name. It comes only after the eight first words that a name follows.
+/// The one error is out of memory. It comes only after the eight first words that a name follows, and only where a later word
+/// names a goroutine, a channel or a step.
 pub fn read_command(alloc: Global, line: &[u8]) -> Result<Line, NoMemory>
     ensures ok { IfOk result (λ read. read ≡ meaning line.now) }
     ensures needed { OnErr result (MayName (words_of (strip_last 13 line.now))) }
