@@ -99,7 +99,7 @@ impl Log {
     ghost use Rattle.gr_record.specs.declared.record.Record.{Record};
 
     /// Whether the steps at two places conflict.
-    pub(crate) fn conflicts(&self, first: usize, second: usize) -> bool
+    pub fn conflicts(&self, first: usize, second: usize) -> bool
         requires first { first < length (records_of self.now) }
         requires second { second < length (records_of self.now) }
         ensures { (a b : Record) → slice_get (records_of self.now) first ≡ Some a
