@@ -92,6 +92,18 @@ module _ (p : Program) (w : World p) (d : Debuggee) (s : Stands p w d) (b : Loan
     stands = s;
   }
 
+  -- a batch that may join has no more steps than are granted, some steps, and room in the log
+  pub no_join_past_grant : (steps : ℕ) → steps ≡ b.steps → d.grant < steps → MayJoin p w (contents_at (store_in d)) b → ⊥
+  no_join_past_grant steps same more may =
+      let granted = may.granted in let grant = s.grant in omega (arith, same, more, granted, grant)
+
+  pub no_join_without_room : (steps rest : ℕ) → steps ≡ b.steps → rest + length w.log ≡ most_steps → rest < steps
+      → MayJoin p w (contents_at (store_in d)) b → ⊥
+  no_join_without_room steps rest same all less may = let room = may.room in omega (arith, same, all, less, room)
+
+  pub no_join_when_changed : (IsAsLentIn b (program_at (store_in d)) (contents_at (store_in d)) → ⊥) → MayJoin p w (contents_at (store_in d)) b → ⊥
+  no_join_when_changed other may = not_lent_here p w d s b other may.as_lent
+
   -- a batch with more steps than are granted is stale
   pub stale_past_grant : (steps : ℕ) → steps ≡ b.steps → d.grant < steps → CommitsTo p w b true Enough Stale d
   stale_past_grant steps same more = record {

@@ -25,6 +25,7 @@ mod MoveLemmas
 mod TripLemmas
 mod GrantLemmas
 mod CommitLemmas
+mod Outcomes
 mod Deciding
 mod CopyLemmas
 pub mod Crossing

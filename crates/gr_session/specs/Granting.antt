@@ -1,5 +1,6 @@
 -- What the workers may do.
-use Rattle.std.specs.Prelude.{◌≡◌, ℕ, ◌<◌, List, length, Option, Some, None}
+use Rattle.std.specs.Prelude.{◌≡◌, ℕ, ◌<◌, List, length, Option, Some, None, Result, Ok, Err}
+use Rattle.gr_base.specs.declared.memory.NoMemory.{NoMemory}
 use Rattle.gr_program.specs.Programs.{Program}
 use Rattle.gr_rules.specs.Limits.{most_steps}
 use Rattle.gr_rules.specs.States.{live}
@@ -43,3 +44,8 @@ pub record IsLoan (p : Program) (w : World p) (place : ℕ) (l : LentCopy) : Typ
 abbrev pub IsLent : (p : Program) → World p → ℕ → Option LentCopy → Type 0
 IsLent p w place (Some l) = IsLoan p w place l
 IsLent p w place None = ¬ CanLend p w
+
+-- a goroutine is lent where one can be, and memory is wanted only there
+abbrev pub Lends : (p : Program) → World p → ℕ → Result (Option LentCopy) NoMemory → Type 0
+Lends p w place (Ok o) = IsLent p w place o
+Lends p w place (Err error) = CanLend p w

@@ -1,6 +1,7 @@
 -- What a session keeps: a legal journal, and a program that stands where it means.
 use Rattle.std.specs.Prelude.{ℕ, ◌≤◌, List, length, All}
 use Rattle.gr_program.specs.declared.program.Program.{Program}
+use Rattle.gr_rollback.specs.Log.{Log}
 use Rattle.gr_rollback.specs.Store.{Store}
 use Rattle.gr_rollback.specs.Stores.{program_at}
 use Rattle.gr_session.specs.declared.TheConstants.{JOURNAL_LIMIT, ASKER_LIMIT}
@@ -10,10 +11,12 @@ use Rattle.gr_session.specs.Journal.{World, first_world}
 use Rattle.gr_session.specs.Entries.{Lead, IsAskedBy}
 use Rattle.gr_session.specs.Debuggees.{Stands, store_in}
 
--- what a session is to those who use it: the program, the store in which it runs, the journal, and how many askers there are
+-- what a session is to those who use it: the program, the store in which it runs, the log of its steps, the journal, and how many
+-- askers there are
 pub record Seen : Type 0 where
   pub program : Program
   pub store : Store
+  pub log : Log
   pub journal : List Entry
   pub askers : ℕ
 

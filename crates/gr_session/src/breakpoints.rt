@@ -37,7 +37,7 @@ pub(crate) fn set(debuggee: &mut Debuggee, line: u32) -> Result<(Memory, Reply),
     ensures leads { (p : Program) → (w : World p) → Stands p w debuggee.old
         → Carries p w (commands.Break line) result debuggee.new }
     ensures listing { SameListing (store_in debuggee.old) (store_in debuggee.new) }
-    ensures store { store_in debuggee.new ≡ store_in debuggee.old }
+    ensures machine { debuggee.new.machine ≡ debuggee.old.machine }
 {
     match debuggee.lines.insert(line as usize, line) {
         Ok(_) => Ok((Memory::Enough, Reply::Acknowledged)),
@@ -51,7 +51,7 @@ pub(crate) fn clear(debuggee: &mut Debuggee, line: u32) -> (Memory, Reply)
     ensures leads { (p : Program) → (w : World p) → Stands p w debuggee.old
         → LeadsTo p w (commands.Clear line) result.0 (said_of result.1) debuggee.new }
     ensures listing { SameListing (store_in debuggee.old) (store_in debuggee.new) }
-    ensures store { store_in debuggee.new ≡ store_in debuggee.old }
+    ensures machine { debuggee.new.machine ≡ debuggee.old.machine }
 {
     let _ = debuggee.lines.swap_remove(&(line as usize));
     (Memory::Enough, Reply::Acknowledged)

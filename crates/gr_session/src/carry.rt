@@ -32,9 +32,9 @@ pub(crate) fn carry_out(
     requires { IsDebuggee debuggee.old }
     ensures leads { (p : Program) → (w : World p) → Stands p w debuggee.old → Carries p w command.now result debuggee.new }
     ensures listing { SameListing (store_in debuggee.old) (store_in debuggee.new) }
-    ensures still { OnOk result (LeavesStore command.now → store_in debuggee.new ≡ store_in debuggee.old) }
+    ensures still { OnOk result (LeavesStore command.now → debuggee.new.machine ≡ debuggee.old.machine) }
     ensures contents { IfOk result (λ answer. KeepsContents (said_of answer.1) (store_in debuggee.old) (store_in debuggee.new)) }
-    ensures err { OnErr result (store_in debuggee.new ≡ store_in debuggee.old) }
+    ensures err { OnErr result (debuggee.new.machine ≡ debuggee.old.machine) }
     ensures wants { OnErr result (MayWantMemory command.now) }
 {
     match command {

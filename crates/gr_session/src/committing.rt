@@ -1,14 +1,14 @@
 //! Batches that are committed: the steps of a goroutine on its copy become steps of the program.
 
-ghost use Rattle.std.specs.Prelude.{◌≡◌, ◌<◌, ◌↔◌, true, IsTrue};
+ghost use Rattle.std.specs.Prelude.{◌≡◌, ◌<◌, ◌↔◌, true, false};
 ghost use Rattle.gr_program.specs.Programs.{Program};
 ghost use Rattle.gr_command.specs.Replies.{said_of, Stale};
 ghost use Rattle.gr_rollback.specs.Stores.{SameListing, contents_at, program_at};
-ghost use Rattle.gr_rollback.specs.StepLeasing.{IsLease, IsAsLent, loan_of, program_lent};
+ghost use Rattle.gr_rollback.specs.StepLeasing.{IsLease, IsAsLent, loan_kept, loan_of, program_lent};
 ghost use Rattle.gr_session.specs.Journal.{World};
 ghost use Rattle.gr_session.specs.Debuggees.{Stands, IsDebuggee, store_in};
-ghost use Rattle.gr_session.specs.Carried.{CommitsTo, CommitsBatch};
-ghost use Rattle.gr_session.specs.Committing.{MustBeStale, contents_after};
+ghost use Rattle.gr_session.specs.Carried.{CommitsTo, JoinsWhereItMay, ComesTo};
+ghost use Rattle.gr_session.specs.Committing.{contents_after};
 
 use crate::debuggee::Debuggee;
 use crate::granting::room;
@@ -27,6 +27,7 @@ fn commit_lent(alloc: Global, debuggee: &mut Debuggee, lease: &mut LentCopy) -> 
     ensures commits { (p : Program) → (w : World p) → Stands p w debuggee.old
         → CommitsTo p w (loan_of lease.old) true result.0 (said_of result.1) debuggee.new }
     ensures stale { (said_of result.1 ≡ Stale) ↔ (debuggee.old.grant < (loan_of lease.old).steps) }
+    ensures joins { JoinsWhereItMay debuggee.old lease.old (said_of result.1) }
     ensures contents { contents_at (store_in debuggee.new)
         ≡ contents_after (said_of result.1) lease.old (contents_at (store_in debuggee.old)) }
     ensures loan { loan_of lease.new ≡ loan_of lease.old }
@@ -60,57 +61,69 @@ pub(crate) enum Origin {
     Own,
 }
 
+/// What a batch comes to.
+#[derive(Drop)]
+pub(crate) struct Outcome {
+    /// What the journal keeps of it.
+    pub(crate) batch: LocalRun,
+    /// Whether its goroutine is as it was lent, in a run of the same program that goes on.
+    pub(crate) stood: bool,
+    /// How far memory went.
+    pub(crate) memory: Memory,
+    pub(crate) reply: Reply,
+}
+
+/// What a batch comes to that is of another program, or whose goroutine is not as it was lent.
+fn changed(lease: LentCopy) -> Outcome
+    requires lease { IsLease lease }
+    ensures kept { loan_kept result.batch ≡ loan_of lease }
+    ensures stood { result.stood ≡ false }
+    ensures memory { result.memory ≡ Memory.Enough }
+    ensures reply { said_of result.reply ≡ Stale }
+{
+    Outcome {
+        batch: lease.into_run(),
+        stood: false,
+        memory: Memory::Enough,
+        reply: Reply::Stale,
+    }
+}
+
 /// Lets the steps of a batch join the log. Four things are needed: the batch is of this program, the run goes on, the goroutine
 /// is as it was lent, and grant and log have room. The program of a batch of unknown origin is compared with the one that runs.
-/// The truth value says whether program and goroutine were so.
 pub(crate) fn commit(
     alloc: Global,
     debuggee: &mut Debuggee,
     lease: LentCopy,
     origin: Origin,
-) -> (LocalRun, bool, Memory, Reply)
+) -> Outcome
     requires debuggee { IsDebuggee debuggee.old }
     requires lease { IsLease lease }
     requires own { (origin ≡ Origin.Own) → (program_lent lease ≡ program_at (store_in debuggee.old)) }
-    ensures commits { (p : Program) → (w : World p) → Stands p w debuggee.old
-        → CommitsBatch p w (loan_of lease) result debuggee.new }
-    ensures as_lent { IsTrue result.1 ↔ IsAsLent lease (store_in debuggee.old) }
-    ensures stale { (said_of result.3 ≡ Stale)
-        ↔ MustBeStale (program_at (store_in debuggee.old)) (contents_at (store_in debuggee.old)) debuggee.old.grant
-        (loan_of lease) }
-    ensures contents { contents_at (store_in debuggee.new)
-        ≡ contents_after (said_of result.3) lease (contents_at (store_in debuggee.old)) }
-    ensures listing { SameListing (store_in debuggee.old) (store_in debuggee.new) }
+    ensures { ComesTo debuggee.old lease result debuggee.new }
 {
     if origin == Origin::Unknown && !debuggee.machine.has_program_of(&lease) {
-        return (lease.into_run(), false, Memory::Enough, Reply::Stale);
+        return changed(lease);
     }
     commit_own(alloc, debuggee, lease)
 }
 
 /// Lets the steps of a batch of this program join the log, under the conditions of `commit`.
-fn commit_own(
-    alloc: Global,
-    debuggee: &mut Debuggee,
-    lease: LentCopy,
-) -> (LocalRun, bool, Memory, Reply)
+fn commit_own(alloc: Global, debuggee: &mut Debuggee, lease: LentCopy) -> Outcome
     requires debuggee { IsDebuggee debuggee.old }
     requires lease { IsLease lease }
     requires own { program_lent lease ≡ program_at (store_in debuggee.old) }
-    ensures commits { (p : Program) → (w : World p) → Stands p w debuggee.old
-        → CommitsBatch p w (loan_of lease) result debuggee.new }
-    ensures as_lent { IsTrue result.1 ↔ IsAsLent lease (store_in debuggee.old) }
-    ensures stale { (said_of result.3 ≡ Stale)
-        ↔ MustBeStale (program_at (store_in debuggee.old)) (contents_at (store_in debuggee.old)) debuggee.old.grant
-        (loan_of lease) }
-    ensures contents { contents_at (store_in debuggee.new)
-        ≡ contents_after (said_of result.3) lease (contents_at (store_in debuggee.old)) }
-    ensures listing { SameListing (store_in debuggee.old) (store_in debuggee.new) }
+    ensures { ComesTo debuggee.old lease result debuggee.new }
 {
     let mut lease = lease;
     if !debuggee.machine.has_as_lent(&lease) {
-        return (lease.into_run(), false, Memory::Enough, Reply::Stale);
+        return changed(lease);
     }
     let (memory, reply) = commit_lent(alloc, debuggee, &mut lease);
-    (lease.into_run(), true, memory, reply)
+    Outcome {
+        batch: lease.into_run(),
+        stood: true,
+        memory,
+        reply,
+    }
 }

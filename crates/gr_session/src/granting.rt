@@ -11,7 +11,7 @@ ghost use Rattle.gr_session.specs.Debuggees.{Stands, IsDebuggee, store_in};
 ghost use Rattle.gr_session.specs.Carried.{LeadsTo};
 ghost use Rattle.gr_rollback.specs.StepLeasing.{IsLease, IsAsLent};
 ghost use Rattle.gr_session.specs.Wants.{KeepsContents};
-ghost use Rattle.gr_session.specs.Granting.{MayStep, IsTurnDue, CanLend, IsLent};
+ghost use Rattle.gr_session.specs.Granting.{MayStep, IsTurnDue, CanLend, Lends};
 
 use crate::debuggee::Debuggee;
 use crate::journal::Memory;
@@ -27,7 +27,7 @@ pub(crate) fn free(debuggee: &mut Debuggee, steps: u32) -> (Memory, Reply)
     ensures leads { (p : Program) → (w : World p) → Stands p w debuggee.old
         → LeadsTo p w (commands.Free steps) result.0 (said_of result.1) debuggee.new }
     ensures listing { SameListing (store_in debuggee.old) (store_in debuggee.new) }
-    ensures store { store_in debuggee.new ≡ store_in debuggee.old }
+    ensures machine { debuggee.new.machine ≡ debuggee.old.machine }
 {
     debuggee.grant = steps;
     (Memory::Enough, Reply::Granted(steps))
@@ -104,7 +104,7 @@ pub(crate) fn lend(
     requires { IsDebuggee debuggee.now }
     ensures lease { IfOk result (λ o. IfSome o IsLease) }
     ensures there { IfOk result (λ o. IfSome o (λ l. IsAsLent l (store_in debuggee.now))) }
-    ensures lent { (p : Program) → (w : World p) → Stands p w debuggee.now → IfOk result (IsLent p w place) }
+    ensures lent { (p : Program) → (w : World p) → Stands p w debuggee.now → Lends p w place result }
 {
     if !may_step(debuggee) {
         return Ok(None);

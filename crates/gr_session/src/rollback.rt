@@ -69,7 +69,7 @@ pub(crate) fn back(
         → Carries p w (commands.Back target.now) result debuggee.new }
     ensures contents { IfOk result (λ answer. KeepsContents (said_of answer.1) (store_in debuggee.old) (store_in debuggee.new)) }
     ensures listing { SameListing (store_in debuggee.old) (store_in debuggee.new) }
-    ensures err { OnErr result (store_in debuggee.new ≡ store_in debuggee.old) }
+    ensures err { OnErr result (debuggee.new.machine ≡ debuggee.old.machine) }
 {
     let Some(id) = find(alloc, debuggee, target)? else {
         return Ok(refused(Refusal::NotKept));

@@ -9,19 +9,19 @@ ghost use Rattle.gr_program.specs.Views.{program_of};
 ghost use Rattle.gr_rules.specs.Limits.{most_steps};
 ghost use Rattle.gr_command.specs.Replies.{said_of};
 ghost use Rattle.gr_rollback.specs.Machines as rollback;
-ghost use Rattle.gr_rollback.specs.Machines.{store_of};
+ghost use Rattle.gr_rollback.specs.Machines.{store_of, log_of};
 ghost use Rattle.gr_rollback.specs.Running.{IsChecked};
 ghost use Rattle.gr_rollback.specs.StepLeasing.{IsAsLentIn, loan_of};
 ghost use Rattle.gr_rollback.specs.Stores.{contents_at};
 ghost use Rattle.gr_session.specs.Journal.{course_of};
-ghost use Rattle.gr_session.specs.Entries.{EntersCommand, EntersBatch, IsLegal, InItsWorld};
+ghost use Rattle.gr_session.specs.Entries.{EntersCommand, IsLegal, InItsWorld};
 ghost use Rattle.gr_session.specs.Granting.{IsTurnDue, CanLend, IsLoan};
-ghost use Rattle.gr_session.specs.Committing.{Decides};
+ghost use Rattle.gr_session.specs.Committing.{AnswersBatch};
 ghost use Rattle.gr_session.specs.Growing.{Grows, HasRoom};
 ghost use Rattle.gr_session.specs.Wants.{KeepsContents, LeavesStore, MayWantMemory};
 
 use crate::carry::carry_out;
-use crate::committing::{Origin, commit};
+use crate::committing::{Origin, Outcome, commit};
 use crate::debuggee::Debuggee;
 use crate::granting::{can_lend, lend, room, turn_due};
 use crate::journal::{AskRefused, Asked, DeskId, EnrolRefused, Entry, Receipt, keep, make_room};
@@ -59,9 +59,10 @@ impl Model for Session {
     ghost use Rattle.gr_program.specs.contracts.program.Stmt as stmt;
     ghost use Rattle.gr_program.specs.contracts.types.Type as types;
     ghost use Rattle.gr_code.specs.contracts.code.Operand as operands;
+    ghost use Rattle.gr_depend.specs.contracts.log.Log as logs;
     ghost use Rattle.gr_rollback.specs.StoreContracts as store;
     ghost use Rattle.std.specs.Coded.{codes};
-    ghost use Rattle.gr_session.specs.Debuggees.{store_in};
+    ghost use Rattle.gr_session.specs.Debuggees.{store_in, log_in};
     ghost use Rattle.gr_session.specs.Keeps.{Seen, Keeps, program_held};
 
     ghost Value = { Seen };
@@ -69,6 +70,7 @@ impl Model for Session {
     ghost coded = { Prim.hlevel (
       codes,
       store.the_row.coded,
+      logs.the_row.coded,
       expr.the_row.coded,
       stmt.the_row.coded,
       types.the_row.coded,
@@ -78,6 +80,7 @@ impl Model for Session {
     ghost view = { λ s. record {
       program = program_held (store_in s.debuggee);
       store = store_in s.debuggee;
+      log = log_in s.debuggee;
       journal = s.journal.items;
       askers = s.askers;
     } };
@@ -108,7 +111,7 @@ impl Session {
         // It takes no memory.
         ensures memory { IsErrOf result EnrolRefused.NoMemory → ⊥ }
         ensures others { (self.new.program ≡ self.old.program) × (self.new.journal ≡ self.old.journal) }
-        ensures store { self.new.store ≡ self.old.store }
+        ensures machine { (self.new.store ≡ self.old.store) × (self.new.log ≡ self.old.log) }
         ensures err { OnErr result (self.new ≡ self.old) }
     {
         if self.askers >= ASKER_LIMIT {
@@ -140,7 +143,8 @@ impl Session {
             self.old.journal self.new.journal receipt.number (said_of receipt.reply)) }
         ensures full { IsErrOf result AskRefused.JournalFull ↔ (length self.old.journal ≡ JOURNAL_LIMIT) }
         ensures memory { IsErrOf result AskRefused.NoMemory → Grows (length self.old.journal) ⊎ MayWantMemory command }
-        ensures still { OnOk result (LeavesStore command → self.new.store ≡ self.old.store) }
+        ensures still { OnOk result (LeavesStore command
+            → (self.new.store ≡ self.old.store) × (self.new.log ≡ self.old.log)) }
         ensures contents { IfOk result (λ receipt. KeepsContents (said_of receipt.reply) self.old.store self.new.store) }
         ensures err { OnErr result (self.new ≡ self.old) }
         ensures others { (self.new.program ≡ self.old.program) × (self.new.askers ≡ self.old.askers) }
@@ -163,7 +167,7 @@ impl Session {
 
     /// Lends a copy of a goroutine whose next step is local and no fault. It is the one at the place, modulo their number,
     /// among all such goroutines in the order of names. There is none where the grant is 0, the log is full, the program does
-    /// not run, or no goroutine is such.
+    /// not run, or no goroutine is such. It is out of memory only where there is one.
     pub fn lease(&self, alloc: Global, place: u32) -> Result<Option<Lease>, NoMemory>
         ensures place { IfOk result (λ o. IfSome o (λ l. l.place ≡ place)) }
         ensures lent { IfOk result (λ o. IfSome o (λ l. InItsWorld (program_of self.now.program) self.now.journal
@@ -172,6 +176,8 @@ impl Session {
             (contents_at self.now.store))) }
         ensures none { IfOk result (λ o. IfNone o (InItsWorld (program_of self.now.program) self.now.journal
             (λ w. ¬ CanLend (program_of self.now.program) w))) }
+        ensures memory { OnErr result (InItsWorld (program_of self.now.program) self.now.journal
+            (CanLend (program_of self.now.program))) }
     {
         match lend(alloc, &self.debuggee, place)? {
             Some(copy) => Ok(Some(Lease { copy, place })),
@@ -190,13 +196,7 @@ impl Session {
         batch: Batch,
     ) -> Result<Receipt, AskRefused>
         requires { (1 ≤ desk.number) × (desk.number ≤ self.old.askers) }
-        ensures entry { IfOk result (λ receipt. EntersBatch (program_of self.old.program) desk.number (loan_of batch)
-            self.old.journal self.new.journal receipt.number (said_of receipt.reply)) }
-        ensures decided { IfOk result (λ receipt. Decides self.old batch (said_of receipt.reply) self.new) }
-        ensures full { IsErrOf result AskRefused.JournalFull ↔ (length self.old.journal ≡ JOURNAL_LIMIT) }
-        ensures memory { IsErrOf result AskRefused.NoMemory → Grows (length self.old.journal) }
-        ensures err { OnErr result (self.new ≡ self.old) }
-        ensures others { (self.new.program ≡ self.old.program) × (self.new.askers ≡ self.old.askers) }
+        ensures { AnswersBatch self.old desk.number batch result self.new }
     {
         self.enter_batch(alloc, desk, batch, Origin::Unknown)
     }
@@ -210,13 +210,7 @@ impl Session {
     ) -> Result<Receipt, AskRefused>
         requires asker { (1 ≤ desk.number) × (desk.number ≤ self.old.askers) }
         requires own { (loan_of batch).program ≡ program_of self.old.program }
-        ensures entry { IfOk result (λ receipt. EntersBatch (program_of self.old.program) desk.number (loan_of batch)
-            self.old.journal self.new.journal receipt.number (said_of receipt.reply)) }
-        ensures decided { IfOk result (λ receipt. Decides self.old batch (said_of receipt.reply) self.new) }
-        ensures full { IsErrOf result AskRefused.JournalFull ↔ (length self.old.journal ≡ JOURNAL_LIMIT) }
-        ensures memory { IsErrOf result AskRefused.NoMemory → Grows (length self.old.journal) }
-        ensures err { OnErr result (self.new ≡ self.old) }
-        ensures others { (self.new.program ≡ self.old.program) × (self.new.askers ≡ self.old.askers) }
+        ensures { AnswersBatch self.old desk.number batch result self.new }
     {
         self.enter_batch(alloc, desk, batch, Origin::Own)
     }
@@ -231,19 +225,18 @@ impl Session {
     ) -> Result<Receipt, AskRefused>
         requires asker { (1 ≤ desk.number) × (desk.number ≤ self.old.askers) }
         requires own { (origin ≡ Origin.Own) → ((loan_of batch).program ≡ program_of self.old.program) }
-        ensures entry { IfOk result (λ receipt. EntersBatch (program_of self.old.program) desk.number (loan_of batch)
-            self.old.journal self.new.journal receipt.number (said_of receipt.reply)) }
-        ensures decided { IfOk result (λ receipt. Decides self.old batch (said_of receipt.reply) self.new) }
-        ensures full { IsErrOf result AskRefused.JournalFull ↔ (length self.old.journal ≡ JOURNAL_LIMIT) }
-        ensures memory { IsErrOf result AskRefused.NoMemory → Grows (length self.old.journal) }
-        ensures err { OnErr result (self.new ≡ self.old) }
-        ensures others { (self.new.program ≡ self.old.program) × (self.new.askers ≡ self.old.askers) }
+        ensures { AnswersBatch self.old desk.number batch result self.new }
     {
         if let Err(why) = make_room(&mut self.journal) {
             return Err(why);
         }
         let Batch { copy } = batch;
-        let (batch, stood, memory, reply) = commit(alloc, &mut self.debuggee, copy, origin);
+        let Outcome {
+            batch,
+            stood,
+            memory,
+            reply,
+        } = commit(alloc, &mut self.debuggee, copy, origin);
         let asked = Asked::Batch(batch, stood);
         Ok(keep(&mut self.journal, desk, asked, memory, reply))
     }
@@ -253,6 +246,7 @@ impl Session {
         ensures stands { InItsWorld (program_of self.now.program) self.now.journal
             (λ w. rollback.Stands (program_of self.now.program) (course_of (program_of self.now.program) w) result.now) }
         ensures store { store_of result.now ≡ self.now.store }
+        ensures log { log_of result.now ≡ self.now.log }
     {
         &self.debuggee.machine
     }
@@ -261,6 +255,7 @@ impl Session {
     pub fn journal(&self) -> &[Entry]
         ensures entries { result.now ≡ self.now.journal }
         ensures legal { IsLegal (program_of self.now.program) self.now.askers self.now.journal }
+        ensures short { length self.now.journal ≤ JOURNAL_LIMIT }
     {
         self.journal.as_slice()
     }

@@ -53,7 +53,7 @@ pub(crate) fn step(
         → Carries p w (commands.Step go.now case) result debuggee.new }
     ensures contents { IfOk result (λ answer. KeepsContents (said_of answer.1) (store_in debuggee.old) (store_in debuggee.new)) }
     ensures listing { SameListing (store_in debuggee.old) (store_in debuggee.new) }
-    ensures err { OnErr result (store_in debuggee.new ≡ store_in debuggee.old) }
+    ensures err { OnErr result (debuggee.new.machine ≡ debuggee.old.machine) }
 {
     let named = go.copy(alloc)?;
     let asked = go.copy(alloc)?;

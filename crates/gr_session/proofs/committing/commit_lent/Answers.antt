@@ -1,4 +1,5 @@
-use Rattle.std.proofs.Common.{◌≡◌, length, refl, sym, ap, ◌∙◌, arith}
+use Rattle.std.proofs.Common.{◌≡◌, true≢false, length, refl, sym, ap, ◌∙◌, arith}
+use Rattle.gr_command.specs.Replies.{Committed}
 use Rattle.gr_rollback.specs.Logs.{records_of}
 use Rattle.gr_rollback.specs.declared.TheConstants.{LOG_LIMIT}
 use Rattle.gr_rules.specs.Limits.{most_steps}
@@ -7,7 +8,7 @@ use Rattle.gr_rollback.specs.Stores.{contents_at}
 use Rattle.gr_rollback.proofs.LeasingLemmas.{led_nowhere}
 use Rattle.gr_session.specs.Debuggees.{log_in, store_in}
 use Rattle.gr_session.specs.Journal.{course_of}
-use Rattle.gr_session.proofs.CommitLemmas.{stale_past_grant, full_for_all, some_join, none_joins, fits_all, kept_short, is_stale, full_not_stale, joined_not_stale, none_without_memory, all_committed, not_all_committed, too_many, not_too_many}
+use Rattle.gr_session.proofs.CommitLemmas.{stale_past_grant, full_for_all, some_join, none_joins, fits_all, kept_short, is_stale, full_not_stale, joined_not_stale, none_without_memory, all_committed, not_all_committed, too_many, not_too_many, no_join_past_grant, no_join_without_room}
 use Rattle.gr_session.proofs.DebuggeeLemmas.{log_length}
 use Rattle.gr_session.proofs.committing.commit_lent.Goals as goal
 
@@ -72,3 +73,21 @@ pub returns-in-Err-clause-contents : goal.returns-in-Err-clause-contents
 returns-in-Err-clause-contents c =
     ap contents_at c.in-Err.ensures.store
     ∙ not_all_committed 0 c.args.lease.now (contents_at (store_in c.args.debuggee.now)) (λ e. c.if-steps-eq0.false (c.len-steps.ensures ∙ sym e))
+
+pub returns-then-steps-debuggee-clause-joins : goal.returns-then-steps-debuggee-clause-joins
+returns-then-steps-debuggee-clause-joins c = λ p w s may room. absurd
+    (no_join_past_grant p w c.args.debuggee.now s (loan_of c.args.lease.now) c.len-steps.result c.len-steps.ensures (omega arith) may)
+
+pub returns-then-steps-room-clause-joins : goal.returns-then-steps-room-clause-joins
+returns-then-steps-room-clause-joins c = λ p w s may room. absurd
+    (no_join_without_room p w c.args.debuggee.now s (loan_of c.args.lease.now) c.len-steps.result c.room.result c.len-steps.ensures
+    (c.room.ensures p w s) (omega arith) may)
+
+pub returns-then-steps-eq0-clause-joins : goal.returns-then-steps-eq0-clause-joins
+returns-then-steps-eq0-clause-joins c = λ p w s may room. ap Committed (sym c.if-steps-eq0.true ∙ c.len-steps.ensures)
+
+pub returns-in-Ok-clause-joins : goal.returns-in-Ok-clause-joins
+returns-in-Ok-clause-joins c = λ p w s may room. ap Committed c.len-steps.ensures
+
+pub returns-in-Err-clause-joins : goal.returns-in-Err-clause-joins
+returns-in-Err-clause-joins c = λ p w s may room. absurd (true≢false (sym (c.in-Err.ensures.succeeds room)))

@@ -1,3 +1,4 @@
+use Rattle.gr_session.proofs.Basics.{on_err}
 use Rattle.gr_session.proofs.session.Session.lease.Goals as goal
 
 pub invariant_of-result : goal.invariant_of-result
@@ -18,3 +19,9 @@ returns-in-None-clause-none c =
 
 pub returns-in-Some-clause-there : goal.returns-in-Some-clause-there
 returns-in-Some-clause-there c = rw (← c.self.view_is) (rw c.in-Some.is at c.in_ok-copy.ensures.there)
+
+pub returns-in_err-copy-clause-memory : goal.returns-in_err-copy-clause-memory
+returns-in_err-copy-clause-memory c =
+    rw (← c.self.view_is)
+    (on_err c.from_residual.result
+    (record { world = c.self.invariant.world; means = c.self.invariant.means; holds = c.in_err-copy.ensures.lent _ c.self.invariant.world c.self.invariant.stands }))
