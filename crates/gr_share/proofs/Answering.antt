@@ -1,6 +1,6 @@
 -- What stands under the lock after an entry more.
 use Rattle.std.proofs.Common.{◌≡◌, ℕ, ◌+◌, List, [], ◌∷◌, ◌++◌, length, refl, ap, sym, subst, arith}
-use Rattle.std.specs.Prelude.{IsErrOf, Err}
+use Rattle.std.specs.Prelude.{IsErrOf, OnErr, Result, Ok, Err}
 use mathlib.Core.List.{IsPrefix}
 use Rattle.gr_program.specs.Programs.{Program}
 use Rattle.gr_program.specs.Views.{program_of}
@@ -8,15 +8,13 @@ use Rattle.gr_command.specs.Replies.{said_of}
 use Rattle.gr_session.specs.declared.journal.AskRefused.{AskRefused}
 use Rattle.gr_session.specs.declared.journal.Entry.{Entry}
 use Rattle.gr_session.specs.declared.TheConstants.{JOURNAL_LIMIT}
-use Rattle.gr_session.specs.Entries.{IsLegal}
 use Rattle.gr_session.specs.Keeps.{Seen}
 use Rattle.gr_share.specs.Lines.{Line}
 use Rattle.gr_share.specs.Calls.{EntersCall}
 use Rattle.gr_share.specs.declared.desk.Call.{Call}
-use Rattle.gr_share.specs.declared.views.View.{View}
-use Rattle.gr_share.specs.Ties.{asked, told, Tells, AllBelow, numbers_of, AllTold, FullFor}
+use Rattle.gr_share.specs.Ties.{asked, told, IsFull, Tells, AllBelow, numbers_of}
 use Rattle.gr_share.proofs.Lines.{prefix_trans}
-use Rattle.gr_share.proofs.Telling.{tells_push, more_by, before_next, told_front, told_asked}
+use Rattle.gr_share.proofs.Telling.{tells_push, more_by, before_next}
 
 -- a journal with an entry more begins as it did before
 pub begins_on : (before : List Entry) (s : Seen) (a : ℕ) (call : Call) (journal : List Entry) → IsPrefix before s.journal
@@ -26,17 +24,18 @@ begins_on before s a call journal begins entered =
     let m = more_by (program_of s.program) a call.asked s.journal journal call.receipt.number (said_of call.receipt.reply) entered in
     prefix_trans before s.journal journal begins (m.entry ∷ [], sym m.grows)
 
--- a full journal, with which a seat's calls begin
-pub full_on : (s : Seen) (a : ℕ) (log : List Line) (v : View) → Tells (program_of s.program) s.journal log
-    → IsLegal (program_of s.program) s.askers s.journal → length s.journal ≡ JOURNAL_LIMIT → IsPrefix v.calls (asked a log)
-    → FullFor (program_of s.program) v
-full_on s a log v tells legal full begins = let p = program_of s.program in record {
-  askers = s.askers;
-  journal = s.journal;
-  legal = legal;
-  full = full;
-  told = told_front p s.journal v.calls begins.0 (subst (AllTold p s.journal) (sym begins.1) (told_asked p s.journal a log tells.entries));
-}
+-- the lines are as many as the entries of a full journal
+pub full_on : (s : Seen) (log : List Line) → Tells (program_of s.program) s.journal log → length s.journal ≡ JOURNAL_LIMIT → IsFull log
+full_on s log tells full = let long = tells.as_long in omega (arith, long, full)
+
+-- what holds anyway holds of an error
+pub on_err : {T E A : Type 0} (r : Result T E) → A → OnErr r A
+on_err (Ok t) a = tt
+on_err (Err e) a = a
+
+-- a refusal for this reason
+pub refused_with : {A : Type 0} {why other : AskRefused} → why ≡ other → IsErrOf {T = A} (Err why) other
+refused_with {A = A} {why} {other} is = subst (λ (w : AskRefused). IsErrOf {T = A} (Err why) w) is refl
 
 -- a refusal that is handed on is the same refusal
 pub handed_on : {A B : Type 0} (why other : AskRefused) → IsErrOf {T = A} (Err why) other → IsErrOf {T = B} (Err why) other

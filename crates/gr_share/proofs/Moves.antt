@@ -1,5 +1,5 @@
 -- Each move keeps the rule.
-use Rattle.std.proofs.Common.{◌≡◌, ◌≢◌, ℕ, zero, suc, ◌+◌, ◌<◌, ◌≤◌, ◌==◌, Bool, true, false, true≢false, if◌then◌else◌, List, [], ◌∷◌, ◌++◌, length, set, get_or, refl, ap, sym, ◌∙◌, subst, arith, ⊎_elim, eq-eqb, ne_eqb, length-set, get_or-set_same}
+use Rattle.std.proofs.Common.{◌≡◌, ◌≢◌, ℕ, zero, suc, ◌+◌, ◌<◌, ◌≤◌, ◌==◌, Bool, true, false, true≢false, if◌then◌else◌, List, [], ◌∷◌, ◌++◌, length, set, get_or, refl, ap, sym, ◌∙◌, subst, arith, ⊎_elim, eq-eqb, ne_eqb, length-set, length-append, get_or-set_same}
 use mathlib.Core.List.{IsPrefix}
 use mathlib.Core.Logic.{dite}
 use mathlib.Core.Option.{some, some-injective, some-ne-none}
@@ -11,8 +11,8 @@ use Rattle.atomic_table.proofs.Lists.{at_set, set_again}
 use Rattle.gr_share.specs.Lines.{Line}
 use Rattle.gr_share.specs.declared.desk.Call.{Call}
 use Rattle.gr_share.specs.declared.views.View.{View}
-use Rattle.gr_share.specs.Ties.{asked, front, settled, AskedUpTo, keeping, asking, nobody, claim, sight, hearing, with_asker, newest, Fits, Kept, told, Compared, longer, called, Entered, Taken, Settled}
-use Rattle.gr_share.proofs.Lines.{at_snoc, prefix_self, prefix_trans, asked-own, asked-other, asked_prefix, front-push, settled_prefix, settled-push, settled-named, up_to-more, up_to-push, settled_none, whole}
+use Rattle.gr_share.specs.Ties.{asked, front, settled, AskedUpTo, keeping, asking, nobody, claim, sight, hearing, with_asker, newest, Fits, IsFull, Kept, told, Compared, longer, called, Entered, Taken, Settled, Noted}
+use Rattle.gr_share.proofs.Lines.{at_snoc, prefix_self, prefix_trans, prefix_length, asked-own, asked-other, asked_prefix, front-push, settled_prefix, settled-push, settled-named, up_to-more, up_to-push, settled_none, whole}
 
 off : false ≡ true → ⊥
 off e = true≢false (sym e)
@@ -42,17 +42,21 @@ nobody_fits word seat home log askers by = record {
   noted = omega arith;
   claims = (asked 0 log, refl);
   seen = (log, refl);
+  full = λ b. absurd (off b);
+  noted_full = λ b. absurd (off b);
 }
 
 -- a seat of an asker
-asker_fits : (word seat : ℕ) (home : ℕ → ℕ) (log : List Line) (askers by a : ℕ) (cs : List Line) → by ≡ home a → a ≤ askers → cs ≡ asked a (settled word log)
-    → Fits word seat home log askers by (asking a cs)
-asker_fits word seat home log askers by a cs at le is = record {
+asker_fits : (word seat : ℕ) (home : ℕ → ℕ) (log : List Line) (askers by a : ℕ) (cs : List Line) (told_full : Bool) → by ≡ home a → a ≤ askers
+    → cs ≡ asked a (settled word log) → (told_full ≡ true → IsFull log) → Fits word seat home log askers by (asking a cs told_full)
+asker_fits word seat home log askers by a cs told_full at le is full = record {
   keeper = λ k. absurd (off k);
   asker = λ _. (at, le, is);
   noted = omega arith;
   claims = (asked 0 log, refl);
   seen = (log, refl);
+  full = full;
+  noted_full = λ b. absurd (off b);
 }
 
 keeper_fits : (word : ℕ) (home : ℕ → ℕ) (log : List Line) (askers by : ℕ) → Fits word by home log askers by (keeping log askers)
@@ -62,6 +66,8 @@ keeper_fits word home log askers by = record {
   noted = omega arith;
   claims = (asked 0 log, refl);
   seen = (log, refl);
+  full = λ b. absurd (off b);
+  noted_full = λ b. absurd (off b);
 }
 
 -- the rule at the start
@@ -117,13 +123,20 @@ compares slots id me keeper s k size at small =
             noted = omega arith;
             claims = (asked 0 k.log, refl);
             seen = (k.log, refl);
+            full = λ b. absurd (off b);
+            noted_full = λ b. absurd (off b);
           })),
       record {
         after = refl;
         known = (let n = mine.noted in let same = it.2 in omega arith);
         begins = subst (λ l. IsPrefix me.0.claims (asked me.0.noted l)) (sym it.1) mine.claims;
+        full = λ b. subst IsFull (sym it.1) (mine.noted_full b);
       },
     )
+
+-- a full journal stays full
+still_full : (log more : List Line) → IsFull log → IsFull (log ++ more)
+still_full log more full = omega (arith, full, length-append log more)
 
 -- a seat that is not the session's, after an entry
 grown : (word seat : ℕ) (home : ℕ → ℕ) (log : List Line) (askers by : ℕ) (v : View) (e : Line) → 0 < word → by ≢ seat
@@ -134,6 +147,8 @@ grown word seat home log askers by v e named apart f = record {
   noted = f.noted;
   claims = prefix_trans v.claims (asked v.noted log) (asked v.noted (log ++ e ∷ [])) f.claims (asked_prefix v.noted log (log ++ e ∷ []) (e ∷ [], refl));
   seen = prefix_trans v.seen log (log ++ e ∷ []) f.seen (e ∷ [], refl);
+  full = λ b. still_full log (e ∷ []) (f.full b);
+  noted_full = λ b. still_full log (e ∷ []) (f.noted_full b);
 }
 
 -- the session's seat takes an entry
@@ -161,6 +176,8 @@ enters slots id me a call keeper named few s k size at small =
             noted = omega arith;
             claims = (asked 0 (k.log ++ e ∷ []), refl);
             seen = (k.log ++ e ∷ [], refl);
+            full = λ b. absurd (off b);
+            noted_full = λ b. absurd (off b);
           }))),
       ((λ _. refl), (λ other. absurd (other hit))),
     ))
@@ -185,6 +202,8 @@ left_out a seat home log es askers by id v e named own mine is apart f = record 
   noted = f.noted;
   claims = f.claims;
   seen = f.seen;
+  full = f.full;
+  noted_full = f.noted_full;
 }
 
 -- an asker's seat takes its call
@@ -213,7 +232,8 @@ takes slots id me a es call name named shown few s k size at small =
           (on_set (Fits 0 k.seat k.home k.log k.askers) s.views id w
           (λ j u apart there. left_out a k.seat k.home k.log es k.askers j id u e named own place is apart
           (subst (λ (z : ℕ). Fits z k.seat k.home k.log k.askers j u) hit (k.fits j u there)))
-          (asker_fits 0 k.seat k.home k.log k.askers id me.0.asker (me.0.calls ++ e ∷ []) it.0 it.1 (now ∙ ap (λ (b : ℕ). asked b k.log) (sym name))))),
+          (asker_fits 0 k.seat k.home k.log k.askers id me.0.asker (me.0.calls ++ e ∷ []) me.0.told_full it.0 it.1
+          (now ∙ ap (λ (b : ℕ). asked b k.log) (sym name)) mine.full))),
       ((λ _. refl), (λ other. absurd (other hit))),
     ))
     (λ miss. (
@@ -230,13 +250,13 @@ settles slots id me named s k size at small =
     let x : ℕ = get_or s.words 0 0 in
     let mine = k.fits id me.0 at in
     let it = mine.asker named in
-    let w = asking me.0.asker me.0.calls in (
+    let w = asking me.0.asker me.0.calls me.0.told_full in (
       w,
       keeps,
       tt,
       placed s x id me.1 w k.seat k.home k.log k.askers k.wide k.known
           (on_set (Fits x k.seat k.home k.log k.askers) s.views id w (λ j u _ e. k.fits j u e)
-          (asker_fits x k.seat k.home k.log k.askers id me.0.asker me.0.calls it.0 it.1 it.2)),
+          (asker_fits x k.seat k.home k.log k.askers id me.0.asker me.0.calls me.0.told_full it.0 it.1 it.2 mine.full)),
       (
         refl,
         (λ (none_out : x ≡ 0). subst (IsPrefix (asked me.0.asker me.0.seen))
@@ -245,8 +265,25 @@ settles slots id me named s k size at small =
       ),
     )
 
+-- an asker's seat that was shown a full journal notes it
+pub notes : (slots id : ℕ) (me : Me Call View) → 0 < me.0.asker → IsFull me.0.seen → Allows Kept slots id me 0 (λ n. n) (λ r m. Noted me.0 m.0)
+notes slots id me named full s k size at small =
+    let x : ℕ = get_or s.words 0 0 in
+    let mine = k.fits id me.0 at in
+    let it = mine.asker named in
+    let w = asking me.0.asker me.0.calls true in (
+      w,
+      keeps,
+      tt,
+      placed s x id me.1 w k.seat k.home k.log k.askers k.wide k.known
+          (on_set (Fits x k.seat k.home k.log k.askers) s.views id w (λ j u _ e. k.fits j u e)
+          (asker_fits x k.seat k.home k.log k.askers id me.0.asker me.0.calls true it.0 it.1 it.2
+          (λ _. let longer = prefix_length me.0.seen k.log mine.seen in omega (arith, full, longer)))),
+      refl,
+    )
+
 -- a note of an asker's calls
-pub claims : (id : ℕ) (v : View) → 0 < v.asker → Splits Kept id v v (claim v.asker v.calls)
+pub claims : (id : ℕ) (v : View) → 0 < v.asker → Splits Kept id v v (claim v.asker v.calls v.told_full)
 claims id v named s k at =
     let x : ℕ = get_or s.words 0 0 in
     let it = (k.fits id v at).asker named in record {
@@ -256,7 +293,7 @@ claims id v named s k at =
       log = k.log;
       askers = k.askers;
       known = k.known;
-      fits = on_snoc (Fits x k.seat k.home k.log k.askers) (set s.views id v) (claim v.asker v.calls)
+      fits = on_snoc (Fits x k.seat k.home k.log k.askers) (set s.views id v) (claim v.asker v.calls v.told_full)
           (λ j u e. k.fits j u (subst (λ l. get_elem? l j ≡ some u) (set_again s.views id v at) e))
           (record {
             keeper = λ b. absurd (off b);
@@ -264,6 +301,8 @@ claims id v named s k at =
             noted = it.1;
             claims = subst (λ (l : List Line). IsPrefix l (asked v.asker k.log)) (sym it.2) (asked_prefix v.asker (settled x k.log) k.log (settled_prefix x k.log));
             seen = (k.log, refl);
+            full = λ b. absurd (off b);
+            noted_full = (k.fits id v at).full;
           });
     }
 
@@ -286,6 +325,8 @@ shows id v keeper s k at =
             noted = omega arith;
             claims = (asked 0 k.log, refl);
             seen = subst (λ (l : List Line). IsPrefix l k.log) (sym it.1) (prefix_self k.log);
+            full = λ b. absurd (off b);
+            noted_full = λ b. absurd (off b);
           });
     }
 
@@ -308,7 +349,15 @@ hears id v other w s k at apart there =
       known = k.known;
       fits = on_set (Fits x k.seat k.home k.log k.askers) (set s.views id (hearing v w)) other nobody
           (λ j u _ e. on_set (Fits x k.seat k.home k.log k.askers) s.views id (hearing v w) (λ i y _ f. k.fits i y f)
-          (record { keeper = mine.keeper; asker = mine.asker; noted = theirs.noted; claims = theirs.claims; seen = theirs.seen }) j u e)
+          (record {
+            keeper = mine.keeper;
+            asker = mine.asker;
+            noted = theirs.noted;
+            claims = theirs.claims;
+            seen = theirs.seen;
+            full = mine.full;
+            noted_full = theirs.noted_full;
+          }) j u e)
           (nobody_fits x k.seat k.home k.log k.askers other);
     }
 
@@ -336,6 +385,8 @@ older word seat home log askers by place v apart f = record {
   noted = (let n = f.noted in omega arith);
   claims = f.claims;
   seen = f.seen;
+  full = f.full;
+  noted_full = f.noted_full;
 }
 
 -- a further asker
@@ -362,9 +413,11 @@ opens id v keeper s k at =
             noted = omega arith;
             claims = (asked 0 k.log, refl);
             seen = (k.log, refl);
+            full = λ b. absurd (off b);
+            noted_full = λ b. absurd (off b);
           }))
-          (asker_fits x k.seat home k.log (k.askers + 1) place (v.askers + 1) []
+          (asker_fits x k.seat home k.log (k.askers + 1) place (v.askers + 1) [] false
           (sym (seated_new k.home (k.askers + 1) place) ∙ ap home (sym more))
           (omega arith)
-          (sym (settled_none x k.askers (v.askers + 1) k.log (omega arith) k.known)));
+          (sym (settled_none x k.askers (v.askers + 1) k.log (omega arith) k.known)) (λ b. absurd (off b)));
     }

@@ -5,6 +5,7 @@ use mathlib.Core.List.{IsPrefix, map-append}
 use Rattle.gr_program.specs.Programs.{Program}
 use Rattle.gr_program.specs.Views.{program_of}
 use Rattle.gr_command.specs.Replies.{Said, said_of}
+use Rattle.gr_session.specs.declared.TheConstants.{JOURNAL_LIMIT}
 use Rattle.gr_session.specs.declared.journal.Entry.{Entry}
 use Rattle.gr_session.specs.declared.journal.Asked.TheVariants as entries
 use Rattle.gr_session.specs.Entries.{IsAskedBy}
@@ -14,7 +15,7 @@ use Rattle.gr_share.specs.declared.desk.Asked.{Asked as Wanted}
 use Rattle.gr_share.specs.declared.desk.Asked.TheVariants.{Command, Batch}
 use Rattle.gr_share.specs.declared.desk.Call.{Call}
 use Rattle.gr_share.specs.Lines.{Line}
-use Rattle.gr_share.specs.Ties.{asked, older_lines, AskedUpTo, told, calls_of, AllBelow, numbers_of, IsTold, AllTold, Tells}
+use Rattle.gr_share.specs.Ties.{asked, older_lines, AskedUpTo, IsFull, told, calls_of, AllBelow, numbers_of, IsTold, AllTold, Tells}
 use Rattle.gr_share.proofs.Lines.{asked-append, prefix_trans}
 
 some_inj : {A : Type 0} {a b : A} → Some a ≡ Some b → a ≡ b
@@ -104,10 +105,12 @@ numbers_of_calls a [] = refl
 numbers_of_calls a (c ∷ cs) = ap (λ l. c.receipt.number ∷ l) (numbers_of_calls a cs)
 
 -- the lines of an asker that are its calls tie it to the journal
-pub tied : (s : Seen) (log : List Line) (d : Asker) → Tells (program_of s.program) s.journal log → asked d.number log ≡ calls_of d.number d.calls → IsTied s d
-tied s log d tells same = let p = program_of s.program in let journal = s.journal in record {
+pub tied : (s : Seen) (log : List Line) (d : Asker) → Tells (program_of s.program) s.journal log → asked d.number log ≡ calls_of d.number d.calls
+    → length s.journal ≤ JOURNAL_LIMIT → (d.told_full ≡ true → IsFull log) → IsTied s d
+tied s log d tells same short full = let p = program_of s.program in let journal = s.journal in record {
   numbers = sym (numbers_of_calls d.number d.calls) ∙ (ap numbers_of (sym same) ∙ tells.numbers d.number);
   entries = told_calls p journal d.number d.calls (subst (AllTold p journal) same (told_asked p journal d.number log tells.entries));
+  full = λ told. let long = full told in omega (arith, long, short, tells.as_long);
 }
 
 -- the journal got one entry of an asker, with this number
@@ -147,6 +150,8 @@ tells_push p old new log a c tells enters =
           ∙ (ap (λ l. l ++ (if a == b then c.receipt.number ∷ [] else [])) (tells.numbers b)
           ∙ (ap (λ (k : ℕ). places b 1 old ++ (if k == b then c.receipt.number ∷ [] else [])) (sym m.of_asker)
           ∙ (sym (places_push b 1 old m.entry c.receipt.number m.number_is) ∙ ap (places b 1) (sym m.grows))));
+      as_long = let long = tells.as_long in let grows = ap length m.grows in
+          omega (arith, long, grows, length-append old (m.entry ∷ []), length-append log (told a c ∷ []));
       entries = told_push p new log (told a c) (told_later p old new log more tells.entries) (λ d is. subst (IsEntry p new a) (some_inj is) own);
     }
 
@@ -172,5 +177,10 @@ told_older p journal first (e ∷ es) = ((λ c is. none_some is), told_older p j
     none_some : {Z : Type 0} {c : Call} → None ≡ Some c → Z
     none_some e = absurd (cc)
 
+older_long : (first : ℕ) (es : List Entry) → length (older_lines first es) ≡ length es
+older_long first [] = refl
+older_long first (e ∷ es) = ap suc (older_long (suc first) es)
+
 pub tells_older : (p : Program) (journal : List Entry) → Tells p journal (older_lines 1 journal)
-tells_older p journal = record { numbers = λ a. numbers_older a 1 journal; entries = told_older p journal 1 journal }
+tells_older p journal =
+    record { numbers = λ a. numbers_older a 1 journal; as_long = older_long 1 journal; entries = told_older p journal 1 journal }

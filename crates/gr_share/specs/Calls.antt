@@ -1,5 +1,5 @@
 -- What desks and workers have asked, and what that is to the journal.
-use Rattle.std.specs.Prelude.{◌≡◌, ℕ, suc, ◌<◌, ◌==◌, if◌then◌else◌, List, [], ◌∷◌, ◌++◌, map, length, ⊤, All, Result, IfOk, OnErr, IsErrOf}
+use Rattle.std.specs.Prelude.{◌≡◌, ℕ, suc, ◌<◌, ◌==◌, if◌then◌else◌, Bool, true, List, [], ◌∷◌, ◌++◌, map, length, ⊤, All, Result, IfOk, IfErr}
 use Rattle.std.specs.Borrow.{MutBor, Bor, Fml, follows_so}
 use mathlib.Core.List.{IsPrefix}
 use mathlib.Core.Option.{none}
@@ -9,20 +9,21 @@ use Rattle.gr_program.specs.Views.{program_of}
 use Rattle.gr_command.specs.Replies.{Said, said_of}
 use Rattle.gr_session.specs.declared.TheConstants.{JOURNAL_LIMIT}
 use Rattle.gr_session.specs.declared.journal.AskRefused.{AskRefused}
-use Rattle.gr_session.specs.declared.journal.AskRefused.TheVariants.{JournalFull}
+use Rattle.gr_session.specs.declared.journal.AskRefused.TheVariants.{JournalFull, NoMemory}
 use Rattle.gr_session.specs.declared.journal.Entry.{Entry}
 use Rattle.gr_session.specs.declared.journal.Receipt.{Receipt}
-use Rattle.gr_session.specs.Entries.{EntersCommand, EntersBatch, IsLegal}
+use Rattle.gr_session.specs.Entries.{EntersCommand, EntersBatch}
 use Rattle.gr_session.specs.Keeps.{Seen}
 use Rattle.gr_session.specs.Copies.{Loan, loan_of}
 use Rattle.gr_share.specs.declared.desk.Asked.{Asked as Wanted}
 use Rattle.gr_share.specs.declared.desk.Asked.TheVariants.{Command, Batch}
 use Rattle.gr_share.specs.declared.desk.Call.{Call}
 
--- a desk: its number among the askers, and its calls, the oldest first
+-- an asker: its number, its calls, the oldest first, and whether it was told that the journal is full
 pub record Asker : Type 0 where
   pub number : ℕ
   pub calls : List Call
+  pub told_full : Bool
 
 -- a worker: its seat, and its place among the workers
 pub record Staff : Type 0 where
@@ -54,10 +55,12 @@ pub record IsEntry (p : Program) (journal : List Entry) (asker : ℕ) (c : Call)
   pub begins : IsPrefix after journal
   pub entered : EntersCall p asker c.asked before after c.receipt.number (said_of c.receipt.reply)
 
--- the asker's entries in the session's journal are its calls, each once, in their order
+-- The asker's entries in the session's journal are its calls, each once, in their order. The journal is full where the asker was told
+-- so.
 pub record IsTied (session : Seen) (asker : Asker) : Type 0 where
   pub numbers : map (λ c. c.receipt.number) asker.calls ≡ places asker.number 1 session.journal
   pub entries : All (IsEntry (program_of session.program) session.journal asker.number) asker.calls
+  pub full : asker.told_full ≡ true → length session.journal ≡ JOURNAL_LIMIT
 
 -- the asker with this call more
 abbrev pub with_call : Asker → Wanted → Receipt → Asker
@@ -71,19 +74,14 @@ GainsBy old wanted r new = (new ≡ with_call old wanted r) × All (λ c. c.rece
 abbrev pub Gains : Asker → Wanted → Asker → Type 0
 Gains old wanted new = (r : Receipt) × GainsBy old wanted r new
 
--- the journal of a session of the program was full, in which the asker's calls are entries
-pub record WasFull (p : Program) (asker : Asker) : Type 0 where
-  pub askers : ℕ
-  pub journal : List Entry
-  pub legal : IsLegal p askers journal
-  pub full : length journal ≡ JOURNAL_LIMIT
-  pub calls : All (IsEntry p journal asker.number) asker.calls
+-- the asker after it was refused: it was told whether the journal is full
+abbrev pub after_refusal : AskRefused → Asker → Asker
+after_refusal JournalFull a = record a { told_full = true }
+after_refusal NoMemory a = a
 
--- the asker has one call more, and its receipt is shown; or it was refused, and nothing changed. A journal that was said to be
--- full was full
-abbrev pub Asked : Program → Asker → Wanted → Result (Bor Receipt) AskRefused → Asker → Type 0
-Asked p old wanted result new =
-    IfOk result (λ r. GainsBy old wanted r.now new) × OnErr result (new ≡ old) × (IsErrOf result JournalFull → WasFull p old)
+-- the asker has one call more, and its receipt is shown; or it was refused
+abbrev pub Asked : Asker → Wanted → Result (Bor Receipt) AskRefused → Asker → Type 0
+Asked old wanted result new = IfOk result (λ r. GainsBy old wanted r.now new) × IfErr result (λ why. new ≡ after_refusal why old)
 
 -- when the borrow ends, P holds of what was lent
 abbrev pub EndsAs : (R : RattleType) → MutBor R.Denot → (R.Denot → Type 0) → Fml

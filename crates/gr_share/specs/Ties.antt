@@ -1,5 +1,5 @@
 -- The rule that ties the calls of each asker to the lines of the journal, by one word.
-use Rattle.std.specs.Prelude.{◌≡◌, ◌≢◌, ℕ, zero, suc, ◌+◌, ◌<◌, ◌≤◌, ◌==◌, true, false, if◌then◌else◌, List, [], ◌∷◌, ◌++◌, map, length, slice_index, Some, None}
+use Rattle.std.specs.Prelude.{◌≡◌, ◌≢◌, ℕ, zero, suc, ◌+◌, ◌<◌, ◌≤◌, ◌==◌, Bool, true, false, if◌then◌else◌, List, [], ◌∷◌, ◌++◌, map, length, slice_index, Some, None}
 use mathlib.Core.Option.{Option, none, some}
 use mathlib.Core.List.{IsPrefix}
 use lib.ListN.{get_elem?}
@@ -7,8 +7,9 @@ use Rattle.atomic_table.specs.Seated.{TableId}
 use Rattle.atomic_table.specs.Table.{State}
 use Rattle.gr_program.specs.Programs.{Program, ProgramIs}
 use Rattle.gr_session.specs.declared.TheConstants.{JOURNAL_LIMIT}
+use Rattle.gr_session.specs.declared.journal.AskRefused.{AskRefused}
+use Rattle.gr_session.specs.declared.journal.AskRefused.TheVariants.{JournalFull, NoMemory}
 use Rattle.gr_session.specs.declared.journal.Entry.{Entry}
-use Rattle.gr_session.specs.Entries.{IsLegal}
 use Rattle.gr_share.specs.declared.views.View.{View}
 use Rattle.gr_share.specs.declared.desk.Call.{Call}
 use Rattle.gr_share.specs.Calls.{IsEntry, places}
@@ -50,39 +51,68 @@ AskedUpTo askers (x ∷ xs) = (x.asker ≤ askers) × AskedUpTo askers xs
 
 -- the session's seat
 abbrev pub keeping : List Line → ℕ → View
-keeping log askers = record { keeps = true; log = log; askers = askers; asker = 0; calls = []; noted = 0; claims = []; seen = [] }
+keeping log askers = record {
+  keeps = true;
+  log = log;
+  askers = askers;
+  asker = 0;
+  calls = [];
+  told_full = false;
+  noted = 0;
+  claims = [];
+  noted_full = false;
+  seen = [];
+}
 
--- an asker's seat
-abbrev pub asking : ℕ → List Line → View
-asking asker calls = record { keeps = false; log = []; askers = 0; asker = asker; calls = calls; noted = 0; claims = []; seen = [] }
+-- an asker's seat, with its calls, and whether it was told that the journal is full
+abbrev pub asking : ℕ → List Line → Bool → View
+asking asker calls told_full = record {
+  keeps = false;
+  log = [];
+  askers = 0;
+  asker = asker;
+  calls = calls;
+  told_full = told_full;
+  noted = 0;
+  claims = [];
+  noted_full = false;
+  seen = [];
+}
 
 abbrev pub nobody : View
-nobody = asking 0 []
+nobody = asking 0 [] false
 
-abbrev pub claim : ℕ → List Line → View
-claim asker calls = record nobody { noted = asker; claims = calls }
+abbrev pub claim : ℕ → List Line → Bool → View
+claim asker calls told_full = record nobody { noted = asker; claims = calls; noted_full = told_full }
 
 abbrev pub sight : List Line → View
 sight log = record nobody { seen = log }
 
 -- a seat that took in a note
 abbrev pub hearing : View → View → View
-hearing v w = record v { noted = w.noted; claims = w.claims; seen = w.seen }
+hearing v w = record v { noted = w.noted; claims = w.claims; noted_full = w.noted_full; seen = w.seen }
 
 -- the session's seat after a further asker
 abbrev pub with_asker : View → View
 with_asker v = keeping v.log (v.askers + 1)
 
 abbrev pub newest : View → View
-newest v = asking (v.askers + 1) []
+newest v = asking (v.askers + 1) [] false
 
--- what holds of one view: there is one seat of the session, and one of each asker; notes are beginnings of what they tell
+-- the journal is full
+abbrev pub IsFull : List Line → Type 0
+IsFull log = JOURNAL_LIMIT ≤ length log
+
+-- What holds of one view. There is one seat of the session, and one of each asker. Notes are beginnings of what they tell. Who was
+-- told that the journal is full was told the truth.
 pub record Fits (word seat : ℕ) (home : ℕ → ℕ) (log : List Line) (askers by : ℕ) (v : View) : Type 0 where
   pub keeper : v.keeps ≡ true → (by ≡ seat) × (v.log ≡ log) × (v.askers ≡ askers)
   pub asker : 0 < v.asker → (by ≡ home v.asker) × (v.asker ≤ askers) × (v.calls ≡ asked v.asker (settled word log))
   pub noted : v.noted ≤ askers
   pub claims : IsPrefix v.claims (asked v.noted log)
   pub seen : IsPrefix v.seen log
+  pub full : v.told_full ≡ true → IsFull log
+  pub noted_full : v.noted_full ≡ true → IsFull log
 
 -- the rule
 pub record Kept (s : State Call View) : Type 0 where
@@ -94,11 +124,13 @@ pub record Kept (s : State Call View) : Type 0 where
   pub known : AskedUpTo askers log
   pub fits : (by : ℕ) (v : View) → get_elem? s.views by ≡ some v → Fits (slice_index s.words 0) seat home log askers by v
 
--- a note of an asker's calls is of one of the askers, and its calls are lines of the journal
+-- A note of an asker's calls is of one of the askers, and its calls are lines of the journal. The journal is full where the asker was
+-- told so.
 pub record Compared (v w : View) : Type 0 where
   pub after : w ≡ keeping v.log v.askers
   pub known : v.noted ≤ v.askers
   pub begins : IsPrefix v.claims (asked v.noted v.log)
+  pub full : v.noted_full ≡ true → IsFull v.log
 
 -- a call as a line
 abbrev pub told : ℕ → Call → Line
@@ -110,7 +142,7 @@ longer v asker (some call) = keeping (v.log ++ told asker call ∷ []) v.askers
 
 abbrev pub called : View → ℕ → Option Call → View
 called v asker none = v
-called v asker (some call) = asking v.asker (v.calls ++ told asker call ∷ [])
+called v asker (some call) = asking v.asker (v.calls ++ told asker call ∷ []) v.told_full
 
 -- the journal has one line more, of the asker that the word now names, if the word was as expected; else nothing changed
 abbrev pub Entered : ℕ → ℕ → Option Call → View → ℕ → View → Type 0
@@ -122,7 +154,16 @@ Taken asker said v found w = (found ≡ asker → w ≡ called v asker said) × 
 
 -- where the word is 0, the asker's lines of a journal that was shown are a beginning of its calls
 abbrev pub Settled : View → ℕ → View → Type 0
-Settled v found w = (w ≡ asking v.asker v.calls) × (found ≡ 0 → IsPrefix (asked v.asker v.seen) v.calls)
+Settled v found w = (w ≡ asking v.asker v.calls v.told_full) × (found ≡ 0 → IsPrefix (asked v.asker v.seen) v.calls)
+
+-- the asker notes that the journal is full
+abbrev pub Noted : View → View → Type 0
+Noted v w = w ≡ asking v.asker v.calls true
+
+-- an asker's seat after it was refused
+abbrev pub after_refusal : AskRefused → View → View
+after_refusal JournalFull v = asking v.asker v.calls true
+after_refusal NoMemory v = v
 
 abbrev pub calls_of : ℕ → List Call → List Line
 calls_of asker calls = map (told asker) calls
@@ -144,15 +185,8 @@ abbrev pub AllTold : Program → List Entry → List Line → Type 0
 AllTold p journal [] = Unit {0}
 AllTold p journal (x ∷ xs) = IsTold p journal x × AllTold p journal xs
 
--- the journal of a session of the program was full, of which a seat's calls are entries
-pub record FullFor (p : Program) (v : View) : Type 0 where
-  pub askers : ℕ
-  pub journal : List Entry
-  pub legal : IsLegal p askers journal
-  pub full : length journal ≡ JOURNAL_LIMIT
-  pub told : AllTold p journal v.calls
-
 -- the lines are those of the journal
 pub record Tells (p : Program) (journal : List Entry) (log : List Line) : Type 0 where
   pub numbers : (asker : ℕ) → numbers_of (asked asker log) ≡ places asker 1 journal
+  pub as_long : length log ≡ length journal
   pub entries : AllTold p journal log

@@ -1,8 +1,9 @@
 -- What workers are lent, and what they ask.
-use Rattle.std.specs.Prelude.{◌≡◌, ℕ, ◌-◌, ◌≤◌, min, List, ◌++◌, length, All}
+use Rattle.std.specs.Prelude.{◌≡◌, ℕ, ◌-◌, ◌<◌, ◌≤◌, min, List, [], ◌∷◌, ◌++◌, length, All}
 use Rattle.gr_program.specs.Programs.{Program}
 use Rattle.gr_rules.specs.Limits.{most_steps}
 use Rattle.gr_command.specs.declared.command.Command.TheVariants.{Turn}
+use Rattle.gr_command.specs.Replies.{Said, Committed, said_of}
 use Rattle.gr_session.specs.declared.journal.Entry.{Entry}
 use Rattle.gr_session.specs.Copies.{Lent, loan_of, most_at}
 use Rattle.gr_session.specs.Entries.{InItsWorld}
@@ -11,7 +12,7 @@ use Rattle.gr_session.specs.Journal.{World}
 use Rattle.gr_share.specs.declared.desk.Asked.{Asked as Wanted}
 use Rattle.gr_share.specs.declared.desk.Asked.TheVariants.{Command, Batch}
 use Rattle.gr_share.specs.declared.desk.Call.{Call}
-use Rattle.gr_share.specs.Calls.{Asker}
+use Rattle.gr_share.specs.Calls.{Asker, Staff}
 
 -- how many steps a worker may take: as many as the log and the grant have room for
 abbrev pub most_lent : (p : Program) → World p → ℕ
@@ -36,7 +37,21 @@ abbrev pub IsWork : Program → (place : ℕ) → Wanted → Type 0
 IsWork p place (Command command) = command ≡ Turn
 IsWork p place (Batch go steps) = WasLent p place go steps
 
--- the asker has further calls, all of them of a worker at this place
-abbrev pub HasWorked : Program → (place : ℕ) → Asker → Asker → Type 0
-HasWorked p place old new =
-    (more : List Call) × (new ≡ record old { calls = old.calls ++ more }) × All (λ c. IsWork p place c.asked) more
+-- each call of the worker is work at its place
+abbrev pub IsAtWork : Program → Staff → Type 0
+IsAtWork p w = All (λ c. IsWork p w.place c.asked) w.seat.calls
+
+-- a reply tells that fewer than so many steps joined the log
+abbrev pub IsCutTo : ℕ → Said → Type 0
+IsCutTo steps reply = (joined : ℕ) × (reply ≡ Committed joined) × (joined < steps)
+
+-- fewer steps joined the log than the batch had
+abbrev pub IsCut : Call → Type 0
+IsCut c = elim c.asked [ Command command ↦ ⊥ | Batch go steps ↦ IsCutTo steps (said_of c.receipt.reply) ]
+
+-- The asker has further calls. No call follows a batch that was cut.
+pub record HasWorked (old new : Asker) : Type 0 where
+  pub number : new.number ≡ old.number
+  pub more : List Call
+  pub calls : new.calls ≡ old.calls ++ more
+  pub ends : (before after : List Call) (c : Call) → more ≡ before ++ c ∷ after → IsCut c → after ≡ []

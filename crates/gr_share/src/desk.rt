@@ -1,5 +1,5 @@
 //! Desks and workers: askers of a shared session, with what they asked.
-ghost use Rattle.std.specs.Prelude.{◌≡◌, ◌++◌, ◌∷◌, [], IfOk, OnErr};
+ghost use Rattle.std.specs.Prelude.{◌≡◌, ◌++◌, ◌∷◌, [], IfOk};
 
 use crate::locked::Found;
 use crate::shared::Shared;
@@ -25,15 +25,17 @@ pub struct Call {
     pub receipt: Receipt,
 }
 
-// What a worker found to do.
+/// What a worker found to do.
 #[derive(Drop)]
 pub enum Work {
-    // It took a turn.
+    /// It took a turn.
     Turned,
-    // It was lent a goroutine, to take at most this many steps.
+    /// It was lent a goroutine, to take at most this many steps.
     Lends(Lease, usize),
-    // The workers are to end, or it was refused.
-    Nothing,
+    /// The workers are to end.
+    Closed,
+    /// It was refused.
+    Refused(AskRefused),
 }
 
 /// An asker of a shared session, with its calls.
@@ -52,18 +54,18 @@ impl<B: Room> Model for Desk<B> {
 
     ghost Value = { Asker };
 
-    ghost view = { λ d. record { number = d.number; calls = d.calls.items } };
+    ghost view = { λ d. record { number = d.number; calls = d.calls.items; told_full = d.seat.me.0.told_full } };
 
     ghost invariant = { λ d. (d.seat.table_id ≡ B.table) × (1 ≤ d.number)
-        × (d.seat.me.0 ≡ asking d.number (calls_of d.number d.calls.items)) };
+        × (d.seat.me.0 ≡ asking d.number (calls_of d.number d.calls.items) d.seat.me.0.told_full) };
 }
 
 impl<B: Room> Desk<B> {
-    ghost use Rattle.std.specs.Prelude.{◌≡◌, ◌++◌, ◌∷◌, [], ◌<◌, length, All, IfOk, OnOk, OnErr, IsErrOf};
+    ghost use Rattle.std.specs.Prelude.{◌≡◌, ◌++◌, ◌∷◌, [], ◌<◌, length, All, IfOk, IfErr, OnOk};
     ghost use Rattle.std.specs.Borrow.{sem};
     ghost use Rattle.gr_session.specs.Copies.{loan_of};
     ghost use Rattle.gr_share.specs.contracts.desk.Desk.{the_row};
-    ghost use Rattle.gr_share.specs.Calls.{EndsAs, Asked as AskedBy, Gains, WasFull};
+    ghost use Rattle.gr_share.specs.Calls.{EndsAs, Asked as AskedBy, Gains, after_refusal};
     ghost use Rattle.gr_share.specs.Finding.{Looks, LendsOf};
 
     /// Asks a command, whose receipt is then the last one that is kept.
@@ -75,8 +77,7 @@ impl<B: Room> Desk<B> {
         command: Command,
     ) -> Result<(), AskRefused>
         ensures call { OnOk result (Gains self.old (Asked.Command command) self.new) }
-        ensures full { IsErrOf result AskRefused.JournalFull → WasFull B.program self.old }
-        ensures err { OnErr result (self.new ≡ self.old) }
+        ensures err { IfErr result (λ why. self.new ≡ after_refusal why self.old) }
     {
         if self.calls.reserve(1).is_err() {
             return Err(AskRefused::NoMemory);
@@ -113,7 +114,7 @@ impl<B: Room> Desk<B> {
     ) -> Result<(), AskRefused>
         requires own { (loan_of batch).program ≡ B.program }
         ensures call { OnOk result (Gains self.old (Asked.Batch (loan_of batch).name (loan_of batch).steps) self.new) }
-        ensures err { OnErr result (self.new ≡ self.old) }
+        ensures err { IfErr result (λ why. self.new ≡ after_refusal why self.old) }
     {
         if self.calls.reserve(1).is_err() {
             return Err(AskRefused::NoMemory);
@@ -152,7 +153,7 @@ impl<B: Room> Desk<B> {
         ensures own { LendsOf B.program place result }
     {
         if self.calls.reserve(1).is_err() {
-            return Work::Nothing;
+            return Work::Refused(AskRefused::NoMemory);
         }
         let mut locked = shared
             .changed
@@ -164,7 +165,8 @@ impl<B: Room> Desk<B> {
                 Work::Turned
             }
             Found::Lends(lease, limit) => Work::Lends(lease, limit),
-            Found::Nothing => Work::Nothing,
+            Found::Closed => Work::Closed,
+            Found::Refused(why) => Work::Refused(why),
         }
     }
 
@@ -179,7 +181,8 @@ impl<B: Room> Desk<B> {
     /// Asks a command, and shows the receipt, which is kept. A receipt's number is larger than those before, so its reply
     /// has all that this desk has seen.
     ///
-    /// It is refused where the session refuses it, or where there is no memory for the call: then nothing has changed.
+    /// It is refused where the session refuses it, or where there is no memory for the call: then it has no call more. A desk that
+    /// is told `JournalFull` notes it, and `finish` says that the journal is full.
     pub fn ask<R: Wait>(
         &mut self,
         rt: &R,
@@ -188,7 +191,7 @@ impl<B: Room> Desk<B> {
         command: Command,
     ) -> Result<&Receipt, AskRefused>
         ensures* writes_back { sem 𝓛 (EndsAs (the_row B.row B.Room) self.entry
-            (λ d. AskedBy B.program self.entry.now (Asked.Command command) result d)) }
+            (λ d. AskedBy self.entry.now (Asked.Command command) result d)) }
     {
         self.enter(rt, alloc, shared, command)?;
         Ok(self.last())
@@ -218,10 +221,13 @@ pub struct Worker<B: Room> {
 
 impl<B: Room> Model for Worker<B> {
     ghost use Rattle.gr_share.specs.Calls.{Staff};
+    ghost use Rattle.gr_share.specs.Works.{IsAtWork};
 
     ghost Value = { Staff };
 
     ghost view = { λ w. record { seat = w.seat; place = w.place } };
+
+    ghost invariant = { λ w. IsAtWork B.program (record { seat = w.seat; place = w.place }) };
 }
 
 impl<B: Room> Worker<B> {

@@ -4,6 +4,7 @@ ghost use mathlib.Core.List.{IsPrefix};
 ghost use Rattle.gr_program.specs.Views.{program_of};
 ghost use Rattle.gr_share.specs.Calls.{IsTied};
 ghost use Rattle.gr_share.specs.Seats.{IsDesk, IsWorker, AreAll};
+ghost use Rattle.gr_share.specs.Works.{IsAtWork};
 
 use crate::desk::{Desk, Worker};
 use crate::locked::Locked;
@@ -47,6 +48,7 @@ fn settle_workers<B: Room>(locked: &mut Locked<B>, tie: &Tie, workers: &mut [Wor
     requires { tie.now.table.shared.table_id ≡ B.table }
     ensures same { (locked.new ≡ locked.old) × (workers.new ≡ workers.old) }
     ensures tied { IsTrue result → All (λ w. IsTied locked.old.session w.seat) workers.old }
+    ensures at_work { IsTrue result → All (IsAtWork B.program) workers.old }
 {
     for worker in workers.iter_mut() {
         if !locked.settle(tie, &mut worker.seat) {
@@ -113,6 +115,7 @@ fn settle<B: Room>(
     ensures all { IsTrue result → AreAll first locked.old.session.askers desks.old workers.old }
     ensures desks { IsTrue result → All (λ d. IsTied locked.old.session d) desks.old }
     ensures workers { IsTrue result → All (λ w. IsTied locked.old.session w.seat) workers.old }
+    ensures at_work { IsTrue result → All (IsAtWork B.program) workers.old }
 {
     if !are_all(first, locked.askers(), desks, workers) {
         return false;
@@ -123,8 +126,9 @@ fn settle<B: Room>(
     settle_workers(locked, tie, workers)
 }
 
-/// Ends the sharing. Where no seat is missing, each asker's entries in the journal are its calls. The session is one of the
-/// program that was shared, and its journal begins with the entries that it had then.
+/// Ends the sharing. Where no seat is missing, each asker's entries in the journal are its calls, and those of a worker are turns
+/// and steps that it was lent to take. The journal is full where an asker was told so. The session is one of the program that was
+/// shared, and its journal begins with the entries that it had then.
 pub fn finish<B: Room>(
     shared: Shared<B>,
     mut desks: Vec<Desk<B>>,
@@ -132,6 +136,7 @@ pub fn finish<B: Room>(
 ) -> Result<Finished<B>, Unfinished<B>>
     ensures desks { IfOk result (λ f. (f.desks.items ≡ desks.items) × All (λ d. IsTied f.session d) f.desks.items) }
     ensures workers { IfOk result (λ f. (f.workers.items ≡ workers.items) × All (λ w. IsTied f.session w.seat) f.workers.items) }
+    ensures at_work { IfOk result (λ f. All (IsAtWork B.program) f.workers.items) }
     ensures all { IfOk result (λ f. AreAll shared.first f.session.askers desks.items workers.items) }
     ensures program { IfOk result (λ f. program_of f.session.program ≡ B.program) }
     ensures before { IfOk result (λ f. IsPrefix B.before f.session.journal) }

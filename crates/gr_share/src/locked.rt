@@ -1,6 +1,6 @@
 //! What lies under the lock.
 ghost use Rattle.std.specs.Prelude.{◌≡◌, ◌↔◌, ◌⊎◌, ◌+◌, ◌-◌, ◌^◌, ◌<◌, ◌≤◌, ◌++◌, ◌∷◌, [], true, false, min, length};
-ghost use Rattle.std.specs.Prelude.{IfOk, IfSome, OnErr, IsErrOf, IsTrue};
+ghost use Rattle.std.specs.Prelude.{IfOk, IfErr, IfSome, OnErr, IsErrOf, IsTrue};
 ghost use mathlib.Core.List.{IsPrefix};
 ghost use Rattle.gr_program.specs.Views.{program_of};
 ghost use Rattle.gr_command.specs.Replies.{said_of};
@@ -12,9 +12,9 @@ ghost use Rattle.gr_session.specs.Granting.{CanLend, IsTurnDue};
 ghost use Rattle.gr_session.specs.Growing.{Grows};
 ghost use Rattle.gr_session.specs.Wants.{MayWantMemory};
 ghost use Rattle.gr_share.specs.Calls.{EntersCall, IsTied};
-ghost use Rattle.gr_share.specs.Ties.{asking, told, numbers_of, AllBelow, FullFor};
+ghost use Rattle.gr_share.specs.Ties.{after_refusal, asking, told, numbers_of, AllBelow};
 ghost use Rattle.gr_share.specs.Works.{Lends};
-ghost use Rattle.gr_share.specs.Finding.{Finds, IsNothing};
+ghost use Rattle.gr_share.specs.Finding.{Finds, IsClosed, HasReason};
 
 use crate::desk::{Asked, Call, Desk};
 use crate::tie::Tie;
@@ -26,25 +26,27 @@ use std::alloc::Global;
 use std::marker::{Model, PhantomData};
 use std::sync::Wait;
 
-// What was found for a worker.
+/// What was found for a worker.
 #[derive(Drop)]
 pub(crate) enum Found {
-    // It took a turn.
+    /// It took a turn.
     Turned(Call),
-    // It is lent a goroutine, to take at most this many steps.
+    /// It is lent a goroutine, to take at most this many steps.
     Lends(Lease, usize),
-    // The workers are to end, or it was refused.
-    Nothing,
+    /// The workers are to end.
+    Closed,
+    /// A growth was refused, or the turn was.
+    Refused(AskRefused),
 }
 
-// The session, and its seat, which knows the lines of the journal and the number of askers.
+/// The session, its seat, which knows the lines of the journal and the number of askers, and what is known of the workers.
 #[derive(Drop)]
 pub(crate) struct Locked<B: Room> {
     pub(crate) session: Session,
     pub(crate) keeper: Pass,
-    // How many workers there are.
+    /// How many workers there are.
     pub(crate) workers: u32,
-    // Whether they shall end.
+    /// Whether they shall end.
     pub(crate) closed: bool,
     pub(crate) room: PhantomData<B>,
 }
@@ -85,7 +87,7 @@ impl<B: Room> Locked<B> {
     /// A further asker, with its seat.
     pub(crate) fn enrol(&mut self, tie: &Tie) -> Result<(DeskId, Pass), EnrolRefused>
         requires { tie.now.table.shared.table_id ≡ B.table }
-        ensures desk { IfOk result (λ d. (1 ≤ d.0.number) × (d.1.table_id ≡ B.table) × (d.1.me.0 ≡ asking d.0.number [])) }
+        ensures desk { IfOk result (λ d. (1 ≤ d.0.number) × (d.1.table_id ≡ B.table) × (d.1.me.0 ≡ asking d.0.number [] false)) }
         ensures after { IfOk result (λ d. B.first < d.0.number) }
         ensures number { IfOk result (λ d. (d.0.number ≡ self.old.session.askers + 1) × (self.new.session.askers ≡ d.0.number)) }
         ensures full { IsErrOf result EnrolRefused.Full ↔ (self.old.session.askers ≡ ASKER_LIMIT) }
@@ -107,7 +109,7 @@ impl<B: Room> Locked<B> {
     /// A further asker for a worker, with its seat and its place among the workers, from 1.
     pub(crate) fn enrol_worker(&mut self, tie: &Tie) -> Result<(DeskId, Pass, u32), EnrolRefused>
         requires { tie.now.table.shared.table_id ≡ B.table }
-        ensures desk { IfOk result (λ d. (1 ≤ d.0.number) × (d.1.table_id ≡ B.table) × (d.1.me.0 ≡ asking d.0.number [])) }
+        ensures desk { IfOk result (λ d. (1 ≤ d.0.number) × (d.1.table_id ≡ B.table) × (d.1.me.0 ≡ asking d.0.number [] false)) }
         ensures after { IfOk result (λ d. B.first < d.0.number) }
         ensures place { IfOk result (λ d. (d.2 ≡ min (self.old.workers + 1) (2 ^ 32 - 1)) × (self.new.workers ≡ d.2)) }
         ensures first { IfOk result (λ d. 1 ≤ d.2) }
@@ -139,22 +141,24 @@ impl<B: Room> Locked<B> {
     ) -> Result<Call, AskRefused>
         requires kept { kept ≡ command }
         requires tie { tie.now.table.shared.table_id ≡ B.table }
-        requires seat { (seat.old.table_id ≡ B.table) × (1 ≤ number) × (seat.old.me.0 ≡ asking number seat.old.me.0.calls) }
+        requires seat { (seat.old.table_id ≡ B.table) × (1 ≤ number)
+            × (seat.old.me.0 ≡ asking number seat.old.me.0.calls seat.old.me.0.told_full) }
         ensures table { seat.new.table_id ≡ B.table }
         ensures call { IfOk result (λ c. (c.asked ≡ Asked.Command command)
-            × (seat.new.me.0 ≡ asking number (seat.old.me.0.calls ++ told number c ∷ []))) }
+            × (seat.new.me.0 ≡ asking number (seat.old.me.0.calls ++ told number c ∷ []) seat.old.me.0.told_full)) }
         ensures rises { IfOk result (λ c. AllBelow c.receipt.number (numbers_of seat.old.me.0.calls)) }
         ensures entry { IfOk result (λ c. EntersCall (program_of self.old.session.program) number (Asked.Command command)
             self.old.session.journal self.new.session.journal c.receipt.number (said_of c.receipt.reply)) }
-        ensures full { IsErrOf result AskRefused.JournalFull → FullFor B.program seat.old.me.0 }
         ensures limit { IsErrOf result AskRefused.JournalFull ↔ (length self.old.session.journal ≡ JOURNAL_LIMIT) }
         ensures memory { IsErrOf result AskRefused.NoMemory → Grows (length self.old.session.journal) ⊎ MayWantMemory command }
-        ensures err { OnErr result ((seat.new.me.0 ≡ seat.old.me.0) × (self.new ≡ self.old)) }
+        ensures err { IfErr result (λ why. (seat.new.me.0 ≡ after_refusal why seat.old.me.0) × (self.new ≡ self.old)) }
     {
         tie.compare(&mut self.keeper, seat);
-        let _ = self.session.journal();
         match self.session.ask(alloc, DeskId { number }, command) {
-            Err(why) => Err(why),
+            Err(why) => {
+                tie.refuse(&mut self.keeper, seat, why);
+                Err(why)
+            }
             Ok(receipt) => {
                 let call = Call {
                     asked: Asked::Command(kept),
@@ -180,22 +184,26 @@ impl<B: Room> Locked<B> {
         requires kept { go ≡ (loan_of batch).name }
         requires own { (loan_of batch).program ≡ B.program }
         requires tie { tie.now.table.shared.table_id ≡ B.table }
-        requires seat { (seat.old.table_id ≡ B.table) × (1 ≤ number) × (seat.old.me.0 ≡ asking number seat.old.me.0.calls) }
+        requires seat { (seat.old.table_id ≡ B.table) × (1 ≤ number)
+            × (seat.old.me.0 ≡ asking number seat.old.me.0.calls seat.old.me.0.told_full) }
         ensures table { seat.new.table_id ≡ B.table }
         ensures call { IfOk result (λ c. (c.asked ≡ Asked.Batch (loan_of batch).name (loan_of batch).steps)
-            × (seat.new.me.0 ≡ asking number (seat.old.me.0.calls ++ told number c ∷ []))) }
+            × (seat.new.me.0 ≡ asking number (seat.old.me.0.calls ++ told number c ∷ []) seat.old.me.0.told_full)) }
         ensures rises { IfOk result (λ c. AllBelow c.receipt.number (numbers_of seat.old.me.0.calls)) }
         ensures entry { IfOk result (λ c. EntersCall (program_of self.old.session.program) number c.asked
             self.old.session.journal self.new.session.journal c.receipt.number (said_of c.receipt.reply)) }
         ensures decided { IfOk result (λ c. Decides self.old.session batch (said_of c.receipt.reply) self.new.session) }
         ensures limit { IsErrOf result AskRefused.JournalFull ↔ (length self.old.session.journal ≡ JOURNAL_LIMIT) }
         ensures memory { IsErrOf result AskRefused.NoMemory → Grows (length self.old.session.journal) }
-        ensures err { OnErr result ((seat.new.me.0 ≡ seat.old.me.0) × (self.new ≡ self.old)) }
+        ensures err { IfErr result (λ why. (seat.new.me.0 ≡ after_refusal why seat.old.me.0) × (self.new ≡ self.old)) }
     {
         tie.compare(&mut self.keeper, seat);
         let steps = batch.len();
         match self.session.commit_own(alloc, DeskId { number }, batch) {
-            Err(why) => Err(why),
+            Err(why) => {
+                tie.refuse(&mut self.keeper, seat, why);
+                Err(why)
+            }
             Ok(receipt) => {
                 let call = Call {
                     asked: Asked::Batch(go, steps),
@@ -212,6 +220,8 @@ impl<B: Room> Locked<B> {
     fn lease(&self, alloc: Global, place: u32) -> Result<Option<(Lease, usize)>, NoMemory>
         ensures own { IfOk result (λ o. IfSome o (λ l. (loan_of l.0.copy).program ≡ B.program)) }
         ensures limit { IfOk result (λ o. IfSome o (λ l. Lends B.program self.now.session.journal place l.0 l.1)) }
+        ensures memory { OnErr result (InItsWorld (program_of self.now.session.program) self.now.session.journal
+            (CanLend (program_of self.now.session.program))) }
     {
         // brings the law to the prover
         law_of_journals();
@@ -224,7 +234,7 @@ impl<B: Room> Locked<B> {
         }
     }
 
-    /// What there is to do for a worker, whose seat takes the call of a turn. There is nothing once the workers are to end.
+    /// What there is to do for a worker, whose seat takes the call of a turn.
     pub(crate) fn find<R: Wait>(
         &mut self,
         rt: &R,
@@ -235,22 +245,24 @@ impl<B: Room> Locked<B> {
         place: u32,
     ) -> Found
         requires tie { tie.now.table.shared.table_id ≡ B.table }
-        requires seat { (seat.old.table_id ≡ B.table) × (1 ≤ number) × (seat.old.me.0 ≡ asking number seat.old.me.0.calls) }
+        requires seat { (seat.old.table_id ≡ B.table) × (1 ≤ number)
+            × (seat.old.me.0 ≡ asking number seat.old.me.0.calls seat.old.me.0.told_full) }
         ensures table { seat.new.table_id ≡ B.table }
         ensures finds { Finds B.program self.old.session.journal place number seat.old.me.0 result seat.new.me.0 }
-        ensures closed { self.old.closed ≡ true → IsNothing result }
+        ensures closed { (self.old.closed ≡ true) ↔ IsClosed result }
+        ensures refused { HasReason (program_of self.old.session.program) self.old.session.journal result }
     {
         if self.closed {
-            return Found::Nothing;
+            return Found::Closed;
         }
         match self.lease(alloc, place) {
             Ok(Some((lease, limit))) => return Found::Lends(lease, limit),
             Ok(None) => {}
-            Err(_) => return Found::Nothing,
+            Err(NoMemory) => return Found::Refused(AskRefused::NoMemory),
         }
         match self.ask(rt, alloc, tie, seat, number, Command::Turn, Command::Turn) {
             Ok(call) => Found::Turned(call),
-            Err(_) => Found::Nothing,
+            Err(why) => Found::Refused(why),
         }
     }
 
@@ -260,6 +272,8 @@ impl<B: Room> Locked<B> {
         ensures same { (self.new ≡ self.old) × (desk.new ≡ desk.old) }
         ensures tied { IsTrue result → IsTied self.old.session desk.old }
     {
+        // brings its length to the prover
+        let _ = self.session.journal();
         tie.compare(&mut self.keeper, &mut desk.seat);
         tie.show(&mut self.keeper, &mut desk.seat);
         tie.settle(&mut desk.seat)

@@ -1,14 +1,14 @@
 //! The one table, and the moves on it.
 ghost use Rattle.std.specs.Prelude.{◌≡◌, ℕ, ◌+◌, ◌<◌, ◌≤◌, true, [], ◌∷◌, ◌++◌, length, IsTrue, IfOk};
 ghost use mathlib.Core.List.{IsPrefix};
-ghost use Rattle.gr_share.specs.Ties.{asked, front, keeping, asking, older_lines, sight, hearing, told, with_asker, newest};
+ghost use Rattle.gr_share.specs.Ties.{after_refusal, asked, front, keeping, asking, older_lines, sight, hearing, told, with_asker, newest, IsFull};
 
 use crate::desk::Call;
 use crate::views::{
-    Claims, Compares, Enters, Hears, Law, Opens, Pass, Settles, Shows, Takes, View,
+    Claims, Compares, Enters, Hears, Law, Notes, Opens, Pass, Settles, Shows, Takes, View,
 };
 use atomic_table::Table;
-use gr_session::Session;
+use gr_session::{AskRefused, Session};
 use std::alloc::{AllocError, Global};
 use std::sync::Wait;
 
@@ -50,6 +50,7 @@ impl Tie {
         ensures desk { (desk.new.table_id ≡ desk.old.table_id) × (desk.new.me.0 ≡ desk.old.me.0) }
         ensures known { desk.old.me.0.asker ≤ keeper.old.me.0.askers }
         ensures begins { IsPrefix desk.old.me.0.calls (asked desk.old.me.0.asker keeper.old.me.0.log) }
+        ensures full { desk.old.me.0.told_full ≡ true → IsFull keeper.old.me.0.log }
     {
         let note = self.table.shared.split_seat::<Claims>(desk);
         self.table.shared.join_seat::<Hears>(keeper, note);
@@ -96,7 +97,8 @@ impl Tie {
         requires shown { desk.old.me.0.seen ≡ front desk.old.me.0.seen ++ told asker call.now ∷ [] }
         requires begins { length desk.old.me.0.calls ≤ length (asked asker (front desk.old.me.0.seen)) }
         ensures { (desk.new.table_id ≡ desk.old.table_id)
-            × (desk.new.me.0 ≡ asking desk.old.me.0.asker (desk.old.me.0.calls ++ told asker call.now ∷ [])) }
+            × (desk.new.me.0
+            ≡ asking desk.old.me.0.asker (desk.old.me.0.calls ++ told asker call.now ∷ []) desk.old.me.0.told_full) }
     {
         let word = u64::from(asker);
         for _ in rt.forever() {
@@ -115,10 +117,40 @@ impl Tie {
         requires table { desk.old.table_id ≡ self.now.table.shared.table_id }
         requires desk { 0 < desk.old.me.0.asker }
         ensures desk { (desk.new.table_id ≡ desk.old.table_id)
-            × (desk.new.me.0 ≡ asking desk.old.me.0.asker desk.old.me.0.calls) }
+            × (desk.new.me.0 ≡ asking desk.old.me.0.asker desk.old.me.0.calls desk.old.me.0.told_full) }
         ensures settled { IsTrue result → IsPrefix (asked desk.old.me.0.asker desk.old.me.0.seen) desk.old.me.0.calls }
     {
         self.table.shared.load::<Settles>(desk, 0) == 0
+    }
+
+    /// An asker's seat that was shown a full journal notes that it is full.
+    fn note(&self, desk: &mut Pass)
+        requires table { desk.old.table_id ≡ self.now.table.shared.table_id }
+        requires desk { 0 < desk.old.me.0.asker }
+        requires full { IsFull desk.old.me.0.seen }
+        ensures { (desk.new.table_id ≡ desk.old.table_id)
+            × (desk.new.me.0 ≡ asking desk.old.me.0.asker desk.old.me.0.calls true) }
+    {
+        self.table.shared.load::<Notes>(desk, 0);
+    }
+
+    /// An asker's seat notes why it was refused.
+    pub(crate) fn refuse(&self, keeper: &mut Pass, desk: &mut Pass, why: AskRefused)
+        requires tables { (keeper.old.table_id ≡ self.now.table.shared.table_id)
+            × (desk.old.table_id ≡ self.now.table.shared.table_id) }
+        requires keeper { keeper.old.me.0.keeps ≡ true }
+        requires desk { 0 < desk.old.me.0.asker }
+        requires full { why ≡ AskRefused.JournalFull → IsFull keeper.old.me.0.log }
+        ensures keeper { (keeper.new.table_id ≡ keeper.old.table_id) × (keeper.new.me.0 ≡ keeper.old.me.0) }
+        ensures desk { (desk.new.table_id ≡ desk.old.table_id) × (desk.new.me.0 ≡ after_refusal why desk.old.me.0) }
+    {
+        match why {
+            AskRefused::JournalFull => {
+                self.show(keeper, desk);
+                self.note(desk);
+            }
+            AskRefused::NoMemory => {}
+        }
     }
 
     /// Both seats take a line: the session's as an entry, the asker's as a call.
@@ -139,7 +171,8 @@ impl Tie {
         ensures keeper { (keeper.new.table_id ≡ keeper.old.table_id)
             × (keeper.new.me.0 ≡ keeping (keeper.old.me.0.log ++ told asker call.now ∷ []) keeper.old.me.0.askers) }
         ensures desk { (desk.new.table_id ≡ desk.old.table_id)
-            × (desk.new.me.0 ≡ asking desk.old.me.0.asker (desk.old.me.0.calls ++ told asker call.now ∷ [])) }
+            × (desk.new.me.0
+            ≡ asking desk.old.me.0.asker (desk.old.me.0.calls ++ told asker call.now ∷ []) desk.old.me.0.told_full) }
     {
         self.enter(rt, keeper, asker, call);
         self.show(keeper, desk);

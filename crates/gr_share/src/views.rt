@@ -6,7 +6,7 @@ use gr_session::Session;
 use std::collections::LinkedList;
 use std::marker::{Brand, Model, PhantomData};
 
-// An entry as its asker sees it. No value of it is made.
+/// An entry as its asker sees it. No value of it is made.
 pub struct Line {
     marker: PhantomData<()>,
 }
@@ -19,19 +19,21 @@ impl Model for Line {
     ghost view = { λ _. no_line };
 }
 
-// What a seat knows. No value of it is made.
+/// What a seat knows. No value of it is made.
 pub struct View {
-    // The session's seat: the lines of the journal, and how many askers there are.
+    /// The session's seat: the lines of the journal, and how many askers there are.
     pub keeps: bool,
     pub log: LinkedList<Line>,
     pub askers: u64,
-    // An asker's seat: its number, and its calls.
+    /// An asker's seat: its number, its calls, and whether it was told that the journal is full.
     pub asker: u64,
     pub calls: LinkedList<Line>,
-    // A note of an asker's number and calls.
+    pub told_full: bool,
+    /// A note of an asker's number and calls, and of whether it was told so.
     pub noted: u64,
     pub claims: LinkedList<Line>,
-    // A note of the journal's lines.
+    pub noted_full: bool,
+    /// A note of the journal's lines.
     pub seen: LinkedList<Line>,
 }
 
@@ -64,7 +66,7 @@ impl Room for Brand {
     ghost before = { [] };
 }
 
-// The word names the asker whose last entry is not yet among its calls, or is 0.
+/// The word names the asker whose last entry is not yet among its calls, or is 0.
 pub struct Law;
 
 impl TableRule<Call, View, Session> for Law {
@@ -75,7 +77,7 @@ impl TableRule<Call, View, Session> for Law {
     ghost first = { λ s. keeping (older_lines 1 s.journal) s.askers };
 }
 
-// A new asker's seat.
+/// A new asker's seat.
 pub struct Opens;
 
 impl Split<View> for Opens {
@@ -86,7 +88,7 @@ impl Split<View> for Opens {
     ghost right = { newest };
 }
 
-// A note of an asker's calls.
+/// A note of an asker's calls.
 pub struct Claims;
 
 impl Split<View> for Claims {
@@ -94,10 +96,10 @@ impl Split<View> for Claims {
 
     ghost left = { λ v. v };
 
-    ghost right = { λ v. claim v.asker v.calls };
+    ghost right = { λ v. claim v.asker v.calls v.told_full };
 }
 
-// A note of the journal.
+/// A note of the journal.
 pub struct Shows;
 
 impl Split<View> for Shows {
@@ -108,7 +110,7 @@ impl Split<View> for Shows {
     ghost right = { λ v. sight v.log };
 }
 
-// A note is taken in.
+/// A note is taken in.
 pub struct Hears;
 
 impl Join<View> for Hears {
@@ -119,7 +121,7 @@ impl Join<View> for Hears {
     ghost spent = { nobody };
 }
 
-// The session's seat compares a note with the journal.
+/// The session's seat compares a note with the journal.
 pub struct Compares;
 
 impl Play<Call, View> for Compares {
@@ -128,7 +130,7 @@ impl Play<Call, View> for Compares {
     ghost then = { λ st m r n. Compared m.0 n.0 };
 }
 
-// The session's seat takes an entry.
+/// The session's seat takes an entry.
 pub struct Enters;
 
 impl Play<Call, View> for Enters {
@@ -137,7 +139,7 @@ impl Play<Call, View> for Enters {
     ghost then = { λ st m r n. Entered st.first st.second st.said m.0 r n.0 };
 }
 
-// An asker's seat takes its call.
+/// An asker's seat takes its call.
 pub struct Takes;
 
 impl Play<Call, View> for Takes {
@@ -146,13 +148,22 @@ impl Play<Call, View> for Takes {
     ghost then = { λ st m r n. Taken st.first st.said m.0 r n.0 };
 }
 
-// An asker's seat compares its calls with a journal that it was shown.
+/// An asker's seat compares its calls with a journal that it was shown.
 pub struct Settles;
 
 impl Play<Call, View> for Settles {
     ghost use Rattle.gr_share.specs.Ties.{Settled};
 
     ghost then = { λ st m r n. Settled m.0 r n.0 };
+}
+
+/// An asker's seat that was shown a full journal notes that it is full.
+pub struct Notes;
+
+impl Play<Call, View> for Notes {
+    ghost use Rattle.gr_share.specs.Ties.{Noted};
+
+    ghost then = { λ st m r n. Noted m.0 n.0 };
 }
 
 /// A seat of the one table: the session's, or an asker's.

@@ -1,6 +1,7 @@
 //! Workers.
-ghost use Rattle.std.specs.Prelude.{◌≡◌, ◌+◌, ◌≤◌, length};
-ghost use Rattle.gr_share.specs.Works.{HasWorked};
+ghost use Rattle.std.specs.Prelude.{◌≡◌, ◌↔◌, ◌+◌, ◌≤◌, length, IsTrue};
+ghost use Rattle.gr_command.specs.Replies.{said_of};
+ghost use Rattle.gr_share.specs.Works.{HasWorked, IsCutTo};
 
 use crate::desk::{Work, Worker};
 use crate::shared::Shared;
@@ -11,7 +12,9 @@ use std::alloc::Global;
 use std::sync::Wait;
 
 /// Whether fewer steps joined the log than a batch had, since a growth for them was refused.
-fn is_short(reply: &Reply, steps: usize) -> bool {
+fn is_cut(reply: &Reply, steps: usize) -> bool
+    ensures { IsTrue result ↔ IsCutTo steps (said_of reply.now) }
+{
     match reply {
         Reply::Committed(joined) => (*joined as usize) < steps,
         _ => false,
@@ -23,10 +26,10 @@ impl<B: Room> Worker<B> {
     ghost use Rattle.gr_session.specs.Copies.{loan_of};
     ghost use Rattle.gr_session.specs.declared.journal.Entry.{Entry};
     ghost use Rattle.gr_share.specs.Works.{Lends};
-    ghost use Rattle.gr_share.specs.Finding.{WorksOnce};
+    ghost use Rattle.gr_share.specs.Finding.{WorksOnce, CommitsUpTo};
 
-    /// Takes steps on the copy, without the lock, and commits them. It tells whether it may go on, which it may not when out of
-    /// memory.
+    /// Takes steps on the copy, without the lock, and commits them. It tells whether it may go on: not when out of memory, and not
+    /// behind a batch that was cut.
     fn take_steps<R: Wait, G: Gate>(
         &mut self,
         rt: &R,
@@ -38,7 +41,8 @@ impl<B: Room> Worker<B> {
     ) -> bool
         requires own { (loan_of lease.copy).program ≡ B.program }
         requires lent { (journal : List Entry) × Lends B.program journal self.old.place lease limit }
-        ensures works { WorksOnce B.program self.old.place self.old.seat self.new.seat }
+        ensures works { WorksOnce B.program self.old.place result self.old.seat self.new.seat }
+        ensures few { CommitsUpTo limit self.old.seat self.new.seat }
         ensures place { self.new.place ≡ self.old.place }
     {
         let Ok(batch) = run_batch(alloc, lease, limit, gate) else {
@@ -50,7 +54,7 @@ impl<B: Room> Worker<B> {
             Ok(()) => {
                 let receipt = self.seat.last();
                 gate.after_commit(self.place, receipt);
-                !is_short(&receipt.reply, steps)
+                !is_cut(&receipt.reply, steps)
             }
             Err(_) => false,
         }
@@ -58,13 +62,13 @@ impl<B: Room> Worker<B> {
 
     /// Looks for something to do, and does it. It tells whether it may go on.
     fn act<R: Wait, G: Gate>(&mut self, rt: &R, alloc: Global, shared: &Shared<B>, gate: &G) -> bool
-        ensures works { WorksOnce B.program self.old.place self.old.seat self.new.seat }
+        ensures works { WorksOnce B.program self.old.place result self.old.seat self.new.seat }
         ensures place { self.new.place ≡ self.old.place }
     {
         match self.seat.look(rt, alloc, shared, self.place) {
             Work::Turned => true,
             Work::Lends(lease, limit) => self.take_steps(rt, alloc, shared, gate, lease, limit),
-            Work::Nothing => false,
+            Work::Closed | Work::Refused(_) => false,
         }
     }
 }
@@ -73,8 +77,9 @@ impl<B: Room> Worker<B> {
 /// commits them. They are at most 256, and at most as many as the grant and the log had room for. Where none can be lent, it
 /// takes a turn.
 ///
-/// It waits while there is nothing to do. It ends after `close`, and where it is refused, as in a full journal or when out of
-/// memory. The worker's calls grow by those batches and turns. All calls of the gate are made without the lock.
+/// It waits while there is nothing to do. It ends after `close`, behind a batch that was cut, and where it is refused, as in a
+/// full journal or when out of memory. The worker's calls grow by those batches and turns. All calls of the gate are made
+/// without the lock.
 pub fn worker<B: Room, R: Wait, G: Gate>(
     rt: &R,
     alloc: Global,
@@ -83,7 +88,7 @@ pub fn worker<B: Room, R: Wait, G: Gate>(
     gate: &G,
     budget: u64,
 )
-    ensures works { HasWorked B.program me.old.place me.old.seat me.new.seat }
+    ensures works { HasWorked me.old.seat me.new.seat }
     ensures budget { length me.new.seat.calls ≤ length me.old.seat.calls + budget }
     ensures place { me.new.place ≡ me.old.place }
 {

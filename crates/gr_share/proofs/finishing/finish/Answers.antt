@@ -2,6 +2,7 @@ use Rattle.std.proofs.Common.{rules, ◌≡◌, ℕ, List, All, length, refl, ap
 use Rattle.gr_session.specs.Keeps.{Seen}
 use Rattle.gr_share.specs.Calls.{Asker, Staff, IsTied}
 use Rattle.gr_share.specs.Seats.{AreAll}
+use Rattle.gr_share.specs.Works.{IsAtWork}
 use Rattle.gr_share.proofs.Seats.{handed_back}
 use Rattle.gr_share.proofs.finishing.finish.Goals as goal
 
@@ -20,6 +21,12 @@ returns-then-settle-clause-workers g c =
     handed_back (λ w. IsTied c.into_session.result w.seat) c.args.workers.len c.args.workers.items c.as_mut_slice-2.result.now c.settle.new.workers
     c.if-settle.ensures.same.2 c.as_mut_slice-2.ensures.value count
     (subst (λ (s : Seen). All (λ w. IsTied s w.seat) c.as_mut_slice-2.result.now) session (c.if-settle.ensures.workers refl))
+
+pub returns-then-settle-clause-at_work : goal.returns-then-settle-clause-at_work
+returns-then-settle-clause-at_work g c =
+    let count : c.args.workers.len ≡ length c.args.workers.items = search rules in
+    (handed_back (IsAtWork g.B.Room.program) c.args.workers.len c.args.workers.items c.as_mut_slice-2.result.now c.settle.new.workers
+    c.if-settle.ensures.same.2 c.as_mut_slice-2.ensures.value count (c.if-settle.ensures.at_work refl)).1
 
 pub returns-then-settle-clause-all : goal.returns-then-settle-clause-all
 returns-then-settle-clause-all g c =

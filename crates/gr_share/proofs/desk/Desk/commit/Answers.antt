@@ -15,6 +15,6 @@ returns-in-Ok-asked-clause-call g c =
     let r = call.receipt in
     let before : AllBelow r.number (numbers_of (calls_of c.self.inside.number calls)) =
     subst (λ (v : View). AllBelow r.number (numbers_of v.calls)) c.self.invariant.2 c.in-Ok-asked.ensures.rises in
-    gains c.args.self.now c.self.inside.number calls c.push_reserved.new.self.items (Batch (loan_of c.args.batch).name (loan_of c.args.batch).steps) call.asked r c.self.view_is
+    gains c.args.self.now c.self.inside.number calls c.push_reserved.new.self.items c.self.inside.seat.me.0.told_full _ (Batch (loan_of c.args.batch).name (loan_of c.args.batch).steps) call.asked r c.self.view_is
     (c.push_reserved.ensures.items ∙ ap (λ (l : List Call). l ++ call ∷ []) c.reserve.ensures.items)
-    c.in-Ok-asked.ensures.call.0 (before_calls c.self.inside.number r.number calls before)
+    c.in-Ok-asked.ensures.call.0 (ap (λ (v : View). v.told_full) c.in-Ok-asked.ensures.call.1) (before_calls c.self.inside.number r.number calls before)

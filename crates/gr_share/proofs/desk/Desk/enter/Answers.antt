@@ -1,12 +1,9 @@
 use Rattle.std.proofs.Common.{ap, ◌∙◌, List, ◌++◌, ◌∷◌, [], subst}
-use Rattle.gr_session.specs.declared.journal.AskRefused.TheVariants.{JournalFull}
 use Rattle.gr_share.specs.declared.desk.Asked.TheVariants.{Command}
 use Rattle.gr_share.specs.declared.desk.Call.{Call}
 use Rattle.gr_share.specs.declared.views.View.{View}
-use Rattle.gr_share.specs.Calls.{WasFull}
-use Rattle.gr_share.specs.Ties.{calls_of, numbers_of, AllBelow, AllTold}
-use Rattle.gr_share.proofs.Telling.{before_calls, told_calls}
-use Rattle.gr_share.proofs.Answering.{handed_on}
+use Rattle.gr_share.specs.Ties.{calls_of, numbers_of, AllBelow}
+use Rattle.gr_share.proofs.Telling.{before_calls}
 use Rattle.gr_share.proofs.Calling.{gains}
 use Rattle.gr_share.proofs.desk.Desk.enter.Goals as goal
 
@@ -17,15 +14,6 @@ returns-in-Ok-asked-clause-call g c =
     let r = call.receipt in
     let before : AllBelow r.number (numbers_of (calls_of c.self.inside.number calls)) =
     subst (λ (v : View). AllBelow r.number (numbers_of v.calls)) c.self.invariant.2 c.in-Ok-asked.ensures.rises in
-    gains c.args.self.now c.self.inside.number calls c.push_reserved.new.self.items (Command c.args.command) call.asked r c.self.view_is
+    gains c.args.self.now c.self.inside.number calls c.push_reserved.new.self.items c.self.inside.seat.me.0.told_full _ (Command c.args.command) call.asked r c.self.view_is
     (c.push_reserved.ensures.items ∙ ap (λ (l : List Call). l ++ call ∷ []) c.reserve.ensures.items)
-    c.in-Ok-asked.ensures.call.0 (before_calls c.self.inside.number r.number calls before)
-
-pub returns-in-Err-clause-full : goal.returns-in-Err-clause-full
-returns-in-Err-clause-full g c = λ e.
-    let a = c.self.inside in
-    let p = g.B.Room.program in
-    let f = c.in-Err.ensures.full (handed_on c.in-Err.why JournalFull e) in
-    let told : AllTold p f.journal (calls_of a.number a.calls.items) = subst (λ (v : View). AllTold p f.journal v.calls) c.self.invariant.2 f.told in
-    subst (WasFull p) c.self.view_is
-    (record { askers = f.askers; journal = f.journal; legal = f.legal; full = f.full; calls = told_calls p f.journal a.number a.calls.items told })
+    c.in-Ok-asked.ensures.call.0 (ap (λ (v : View). v.told_full) c.in-Ok-asked.ensures.call.1) (before_calls c.self.inside.number r.number calls before)

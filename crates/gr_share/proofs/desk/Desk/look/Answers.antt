@@ -16,6 +16,6 @@ returns-in-Turned-clause-looks g c =
     let found = c.in-Turned.ensures.finds in
     let before : AllBelow r.number (numbers_of (calls_of c.self.inside.number calls)) =
     subst (λ (v : View). AllBelow r.number (numbers_of v.calls)) c.self.invariant.2 found.2 in
-    gains c.args.self.now c.self.inside.number calls c.push_reserved.new.self.items (Command Turn) call.asked r c.self.view_is
+    gains c.args.self.now c.self.inside.number calls c.push_reserved.new.self.items c.self.inside.seat.me.0.told_full _ (Command Turn) call.asked r c.self.view_is
     (c.push_reserved.ensures.items ∙ ap (λ (l : List Call). l ++ call ∷ []) c.reserve.ensures.items)
-    found.0 (before_calls c.self.inside.number r.number calls before)
+    found.0 (ap (λ (v : View). v.told_full) found.1) (before_calls c.self.inside.number r.number calls before)

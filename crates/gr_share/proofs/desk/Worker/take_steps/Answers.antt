@@ -1,14 +1,18 @@
-use Rattle.std.proofs.Common.{ap, subst, sym, ◌∙◌, inl, inr}
+use Rattle.std.proofs.Common.{ap, subst, sym}
+use Rattle.gr_command.specs.Replies.{said_of}
 use Rattle.gr_session.specs.Copies.{loan_of}
+use Rattle.gr_session.specs.declared.journal.Receipt.{Receipt}
 use Rattle.gr_share.specs.declared.desk.Asked.TheVariants.{Batch}
-use Rattle.gr_share.specs.Calls.{Staff}
+use Rattle.gr_share.specs.Calls.{Asker, Staff}
 use Rattle.gr_share.specs.Works.{WasLent}
-use Rattle.gr_share.specs.Finding.{WorksOnce}
+use Rattle.gr_share.specs.Finding.{WorksOnce, CommitsUpTo}
+use Rattle.gr_share.proofs.Calling.{rested, called, not_cut, few_gained, few_rested, at_work}
 use Rattle.gr_share.proofs.desk.Worker.take_steps.Goals.{in-Ok-commit, in-Err}
 use Rattle.gr_share.proofs.desk.Worker.take_steps.Goals as goal
 
-pub returns-clause-works : goal.returns-clause-works
-returns-clause-works g c =
+-- the worker has a call more, or none
+works : (g : _) (c : goal.Joined-commit g) → WorksOnce g.B.Room.program c.args.self.now.place c.match-commit.result c.self.inside.seat c.commit.new.self
+works g c =
     let p = g.B.Room.program in
     let place = c.args.self.now.place in
     let loan = loan_of c.in-Ok.batch in
@@ -20,8 +24,34 @@ returns-clause-works g c =
       name = sym c.in-Ok.ensures.loan.name;
       few = c.in-Ok.ensures.few;
     } in
-    subst (λ (s : Staff). WorksOnce p place s.seat c.commit.new.self) c.self.view_is
+    elim c.match-commit.branch [
+      | in-Ok-commit w ↦
+          let gained = w.in-Ok-commit.ensures.call in
+          let last = w.last-receipt.ensures c.self.inside.seat.calls (record { asked = Batch loan.name loan.steps; receipt = gained.0 })
+          (ap (λ (a : Asker). a.calls) gained.1.0) in
+          called p place c.match-commit.result c.self.inside.seat c.commit.new.self (Batch loan.name loan.steps) gained lent
+          (not_cut c.match-commit.result w.is_cut.result c.len-steps.result loan.steps _ (said_of gained.0.reply) w.result-is w.is_cut.ensures c.len-steps.ensures
+          (ap (λ (r : Receipt). said_of r.reply) last))
+      | in-Err w ↦ rested p place c.match-commit.result w.in-Err.field-0 c.self.inside.seat c.commit.new.self w.in-Err.ensures.err
+    ]
+
+pub returns-clause-works : goal.returns-clause-works
+returns-clause-works g c =
+    subst (λ (s : Staff). WorksOnce g.B.Room.program c.args.self.now.place c.match-commit.result s.seat c.commit.new.self) c.self.view_is (works g c)
+
+pub invariant_of-self : goal.invariant_of-self
+invariant_of-self g c =
+    let p = g.B.Room.program in
+    let here = ap (λ (s : Staff). s.place) c.self.view_is in
+    at_work p c.self.inside.place c.match-commit.result c.self.inside.seat c.commit.new.self c.self.invariant
+    (subst (λ place. WorksOnce p place c.match-commit.result c.self.inside.seat c.commit.new.self) (sym here) (works g c))
+
+pub returns-clause-few : goal.returns-clause-few
+returns-clause-few g c =
+    let loan = loan_of c.in-Ok.batch in
+    subst (λ (s : Staff). CommitsUpTo c.args.limit s.seat c.commit.new.self) c.self.view_is
     (elim c.match-commit.branch [
-      | in-Ok-commit w ↦ inr (Batch loan.name loan.steps, lent, w.in-Ok-commit.ensures.call)
-      | in-Err w ↦ inl w.in-Err.ensures.err
+      | in-Ok-commit w ↦ few_gained c.args.limit c.self.inside.seat c.commit.new.self loan.name loan.steps w.in-Ok-commit.ensures.call c.in-Ok.ensures.few
+      | in-Err w ↦
+          few_rested c.args.limit g.B.Room.program c.args.self.now.place c.match-commit.result w.in-Err.field-0 c.self.inside.seat c.commit.new.self w.in-Err.ensures.err
     ])

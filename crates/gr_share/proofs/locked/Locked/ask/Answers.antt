@@ -2,21 +2,21 @@ use Rattle.std.proofs.Common.{◌≡◌, ◌↔◌, [], ◌∷◌, ◌++◌, len
 use Rattle.std.specs.Prelude.{IsErrOf}
 use mathlib.Core.List.{IsPrefix}
 use Rattle.gr_program.specs.declared.program.Program.{Program}
-use Rattle.gr_program.specs.Programs.{Program as Pure}
 use Rattle.gr_program.specs.Views.{program_of}
 use Rattle.gr_command.specs.declared.command.Command.{Command as Wanted}
 use Rattle.gr_command.specs.Replies.{said_of}
 use Rattle.gr_share.specs.Lines.{Line}
 use Rattle.gr_session.specs.declared.TheConstants.{JOURNAL_LIMIT}
 use Rattle.gr_session.specs.declared.journal.AskRefused.TheVariants.{JournalFull}
+use Rattle.gr_session.specs.declared.journal.Receipt.{Receipt}
 use Rattle.gr_session.specs.Entries.{EntersCommand}
 use Rattle.gr_share.specs.Calls.{EntersCall}
 use Rattle.gr_share.specs.declared.desk.Asked.TheVariants.{Command}
 use Rattle.gr_share.specs.declared.desk.Call.{Call}
 use Rattle.gr_share.specs.declared.views.View.{View}
 use Rattle.gr_share.specs.Seats.{Held}
-use Rattle.gr_share.specs.Ties.{asked, keeping, told, FullFor}
-use Rattle.gr_share.proofs.Answering.{begins_on, tells_on, full_on, handed_on, rises_on}
+use Rattle.gr_share.specs.Ties.{asked, keeping, told, IsFull}
+use Rattle.gr_share.proofs.Answering.{begins_on, tells_on, full_on, handed_on, refused_with, rises_on}
 use Rattle.gr_share.proofs.locked.Locked.ask.Goals as goal
 
 pub invariant_of-self-in-Ok : goal.invariant_of-self-in-Ok
@@ -56,14 +56,11 @@ returns-in-Ok-clause-rises g c =
     subst (λ (k : Wanted). EntersCommand (program_of s.program) c.args.number k s.journal t.journal r.number (said_of r.reply)) (sym c.requires.kept) c.in-Ok.ensures.entry in
     rises_on s c.args.number call c.self.inside.keeper.me.0.log c.self.invariant.2 t.journal calls begins entered
 
-pub returns-in-Err-clause-full : goal.returns-in-Err-clause-full
-returns-in-Err-clause-full g c = λ e.
+pub refuse-requires-clause-full : goal.refuse-requires-clause-full
+refuse-requires-clause-full g c = λ is.
     let s = c.self.inside.session in
-    let v = c.args.seat.now.me.0 in
-    let log = c.self.inside.keeper.me.0.log in
-    let begins : IsPrefix v.calls (asked v.asker log) = c.compare.ensures.begins in
-    subst (λ (q : Pure). FullFor q v) c.self.invariant.3
-    (full_on s v.asker log v c.self.invariant.2 c.journal.ensures.legal (c.in-Err.ensures.full.0 (handed_on c.in-Err.why JournalFull e)) begins)
+    let full = c.in-Err.ensures.full.0 (refused_with {A = Receipt} is) in
+    subst (λ (v : View). IsFull v.log) (sym c.compare.ensures.keeper.1) (full_on s c.self.inside.keeper.me.0.log c.self.invariant.2 full)
 
 pub returns-in-Err-clause-limit : goal.returns-in-Err-clause-limit
 returns-in-Err-clause-limit g c =

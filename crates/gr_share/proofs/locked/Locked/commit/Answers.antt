@@ -9,8 +9,9 @@ use Rattle.gr_share.specs.Calls.{EntersCall}
 use Rattle.gr_share.specs.declared.desk.Asked.TheVariants.{Batch}
 use Rattle.gr_share.specs.declared.desk.Call.{Call}
 use Rattle.gr_share.specs.declared.views.View.{View}
-use Rattle.gr_share.specs.Ties.{asked, keeping, told}
-use Rattle.gr_share.proofs.Answering.{begins_on, tells_on, rises_on}
+use Rattle.gr_session.specs.declared.journal.Receipt.{Receipt}
+use Rattle.gr_share.specs.Ties.{asked, keeping, told, IsFull}
+use Rattle.gr_share.proofs.Answering.{begins_on, tells_on, full_on, refused_with, rises_on}
 use Rattle.gr_share.proofs.locked.Locked.commit.Goals as goal
 
 pub invariant_of-self-in-Ok : goal.invariant_of-self-in-Ok
@@ -49,3 +50,9 @@ returns-in-Ok-clause-rises g c =
     let entered : EntersCall (program_of s.program) c.args.number call.asked s.journal t.journal r.number (said_of r.reply) =
     record { loan = loan_of c.args.batch; name = sym c.requires.kept; count = sym c.len-steps.ensures; enters = c.in-Ok.ensures.entry } in
     rises_on s c.args.number call c.self.inside.keeper.me.0.log c.self.invariant.2 t.journal calls begins entered
+
+pub refuse-requires-clause-full : goal.refuse-requires-clause-full
+refuse-requires-clause-full g c = λ is.
+    let s = c.self.inside.session in
+    let full = c.in-Err.ensures.full.0 (refused_with {A = Receipt} is) in
+    subst (λ (v : View). IsFull v.log) (sym c.compare.ensures.keeper.1) (full_on s c.self.inside.keeper.me.0.log c.self.invariant.2 full)

@@ -1,12 +1,13 @@
-use Rattle.std.proofs.Common.{◌≡◌, ℕ, List, IfSome, sym, subst}
+use Rattle.std.proofs.Common.{◌≡◌, ℕ, IfSome, sym, subst}
 use Rattle.std.specs.declared.option.Option.{Option}
 use Rattle.gr_program.specs.Programs.{Program}
 use Rattle.gr_program.specs.Views.{program_of}
 use Rattle.gr_session.specs.Copies.{Lent}
 use Rattle.gr_session.specs.Entries.{InItsWorld}
-use Rattle.gr_session.specs.Granting.{IsLoan}
+use Rattle.gr_session.specs.Granting.{IsLoan, CanLend}
 use Rattle.gr_share.specs.Seats.{Held}
 use Rattle.gr_share.specs.Works.{Lends}
+use Rattle.gr_share.proofs.Answering.{on_err}
 use Rattle.gr_share.proofs.Lending.{lends}
 use Rattle.gr_share.proofs.locked.Locked.lease.Goals as goal
 
@@ -23,3 +24,8 @@ returns-in-Some-clause-limit g c =
     let limited : Lends p s.journal place lease c.min-limit.result = subst (λ (n : ℕ). Lends p s.journal place lease n) (sym c.min-limit.ensures) told in
     subst (λ (h : Held). Lends g.B.Room.program h.session.journal place lease c.min-limit.result) c.self.view_is
     (subst (λ (q : Program). Lends q s.journal place lease c.min-limit.result) c.self.invariant.3 limited)
+
+pub returns-in_err-lease-clause-memory : goal.returns-in_err-lease-clause-memory
+returns-in_err-lease-clause-memory g c =
+    on_err c.from_residual.result
+    (subst (λ (h : Held). InItsWorld (program_of h.session.program) h.session.journal (CanLend (program_of h.session.program))) c.self.view_is c.in_err-lease.ensures.memory)

@@ -15,10 +15,12 @@ returns-clause-tied g c t =
     let log = c.self.inside.keeper.me.0.log in
     let mine = c.compare.ensures.desk.1 ∙ c.desk.invariant.2 in
     let kept = c.compare.ensures.keeper.1 in
-    let shown : c.show.new.desk.me.0 ≡ hearing (asking d.number cs) (sight log) = c.show.ensures.desk.1 ∙ (λ k. hearing (mine k) (sight (kept k).log)) in
+    let shown : c.show.new.desk.me.0 ≡ hearing (asking d.number cs d.seat.me.0.told_full) (sight log) =
+    c.show.ensures.desk.1 ∙ (λ k. hearing (mine k) (sight (kept k).log)) in
     let back : IsPrefix (asked d.number log) cs = subst (λ (v : View). IsPrefix (asked v.asker v.seen) v.calls) shown (c.settle.ensures.settled t) in
     let forth : IsPrefix cs (asked d.number log) =
     subst (λ (z : View). IsPrefix z.calls (asked z.asker log)) c.desk.invariant.2 c.compare.ensures.begins in
-    let asker : Asker = record { number = d.number; calls = d.calls.items } in
-    let it : IsTied c.self.inside.session asker = tied c.self.inside.session log asker c.self.invariant.2 (prefix_both (asked d.number log) cs back forth) in
+    let asker : Asker = record { number = d.number; calls = d.calls.items; told_full = d.seat.me.0.told_full } in
+    let it : IsTied c.self.inside.session asker = tied c.self.inside.session log asker c.self.invariant.2 (prefix_both (asked d.number log) cs back forth)
+    c.journal.ensures.short c.compare.ensures.full in
     subst (λ (z : Held × Asker). IsTied z.0.session z.1) (λ k. (c.self.view_is k, c.desk.view_is k)) it
