@@ -4,76 +4,100 @@ use Rattle.gr_program.specs.Programs.{Program}
 use Rattle.gr_program.specs.Views.{program_of}
 use Rattle.gr_share.specs.Entries.{IsLegal}
 use Rattle.gr_share.specs.Keeps.{Seen}
-use Rattle.gr_share.specs.Calls.{Asker, IsTied}
+use Rattle.gr_share.specs.Calls.{Asker, Staff, IsTied}
+use Rattle.gr_share.specs.Seats.{AreAll}
+use Rattle.gr_share.specs.Works.{IsAtWork}
 use Rattle.gr_serve.specs.declared.stream.ServeFault.{ServeFault}
 use Rattle.gr_serve.specs.declared.stream.ServeFault.TheVariants.{Read, Write, Memory}
 use Rattle.gr_serve.specs.declared.debug.DebugFault.{DebugFault}
 use Rattle.gr_serve.specs.declared.debug.DebugFault.TheVariants.{Source, Open, Serve, Threads}
 use Rattle.gr_lines.specs.Devices.{Change, NeverFails}
 use Rattle.gr_serve.specs.Fault.{Blames}
-use Rattle.gr_serve.specs.Debug.{Opened, Unopened, NothingDone, NeverServed}
+use Rattle.gr_serve.specs.Debug.{Opened, Unopened, NothingDone, NeverServed, BlamesDevice}
 use Rattle.gr_serve.specs.Clients.{StreamEnds}
 use Rattle.rewind.specs.DeskStreams.{of_desk, Serves, Leaves}
 
--- the lines were served by a desk without calls before, of a session of this program
-pub record ServedBeside (program : Program) (reader writer : Change) : Type 0 where
+-- the lines were served by a desk without calls before
+pub record ServedBeside (reader writer : Change) : Type 0 where
   pub old : Asker
   pub fresh : old.calls ≡ []
   pub desk : Asker
-  pub served : Serves program old desk reader writer
+  pub served : Serves old desk reader writer
 
 -- such a stream was left
-pub record LeftBeside (program : Program) (fault : ServeFault) (reader writer : Change) : Type 0 where
+pub record LeftBeside (fault : ServeFault) (reader writer : Change) : Type 0 where
   pub old : Asker
   pub fresh : old.calls ≡ []
   pub desk : Asker
-  pub left : Leaves program fault old desk reader writer
+  pub left : Leaves fault old desk reader writer
 
--- each desk's calls are its entries in the legal journal of a session of this program
+-- The sharing of a session of this program has ended. The calls of each desk and worker are its entries in the legal journal, and
+-- those of a worker are turns and steps that it was lent to take. There are no entries but theirs.
 pub record Settled (program : Program) (desks : List Asker) : Type 0 where
   pub session : Seen
   pub program_is : program_of session.program ≡ program
   pub legal : IsLegal program session.askers session.journal
+  pub workers : List Staff
+  pub all : AreAll 0 session.askers desks workers
   pub tied : All (λ desk. IsTied session desk) desks
+  pub workers_tied : All (λ worker. IsTied session worker.seat) workers
+  pub at_work : All (IsAtWork program) workers
 
--- the lines were served by a desk, whose calls are its entries in such a journal
+-- the lines were served by a desk of a session of this program, whose sharing has ended
 pub record SettledBeside (program : Program) (reader writer : Change) : Type 0 where
-  pub stream : ServedBeside program reader writer
+  pub stream : ServedBeside reader writer
   pub settled : Settled program (stream.desk ∷ [])
 
--- what a fault leaves of such a stream, where there is a session
+-- such a stream was left, and the sharing has ended
+pub record LeftSettled (program : Program) (fault : ServeFault) (reader writer : Change) : Type 0 where
+  pub stream : LeftBeside fault reader writer
+  pub settled : Settled program (stream.desk ∷ [])
+
+-- such a stream was left with some fault
+abbrev pub LeftInSome : (reader writer : Change) → Type 0
+LeftInSome reader writer = (fault : ServeFault) × LeftBeside fault reader writer
+
+-- What a fault leaves of such a stream, where there is a session. It is told of the stream where no seat was missing in the end.
 abbrev pub StreamLeft : Program → DebugFault → (reader writer : Change) → Type 0
 StreamLeft program Source reader writer = ⊥
 StreamLeft program (Open error) reader writer = ⊥
-StreamLeft program (Serve Read) reader writer = LeftBeside program Read reader writer
-StreamLeft program (Serve Write) reader writer = LeftBeside program Write reader writer
-StreamLeft program (Serve Memory) reader writer = NothingDone reader writer ⊎ LeftBeside program Memory reader writer
-StreamLeft program Threads reader writer = NothingDone reader writer ⊎ ServedBeside program reader writer
+StreamLeft program (Serve Read) reader writer = LeftSettled program Read reader writer
+StreamLeft program (Serve Write) reader writer = LeftSettled program Write reader writer
+StreamLeft program (Serve Memory) reader writer = NothingDone reader writer ⊎ LeftSettled program Memory reader writer
+StreamLeft program Threads reader writer = NothingDone reader writer ⊎ (ServedBeside reader writer ⊎ LeftInSome reader writer)
 
--- its fault names the device that failed, if one did
+-- its fault names the device that failed, if one did; where seats were missing in the end, either may have failed
 abbrev pub BlamesStream : DebugFault → (reader writer : Change) → Type 0
 BlamesStream Source reader writer = ⊥
 BlamesStream (Open error) reader writer = ⊥
 BlamesStream (Serve fault) reader writer = Blames fault reader writer
-BlamesStream Threads reader writer = NeverFails reader × NeverFails writer
+BlamesStream Threads reader writer = (NeverFails reader × NeverFails writer) ⊎ ((fault : ServeFault) × Blames fault reader writer)
+
+-- the fault names the device that failed, if one did
+abbrev pub BlamesBeside : DebugFault → (source reader writer : Change) → Type 0
+BlamesBeside Source source reader writer = BlamesDevice Source source reader writer
+BlamesBeside (Open error) source reader writer = BlamesDevice (Open error) source reader writer
+BlamesBeside (Serve fault) source reader writer = BlamesDevice (Serve fault) source reader writer
+BlamesBeside Threads source reader writer = NeverFails source × BlamesStream Threads reader writer
 
 -- how a stream of a desk ended
-abbrev pub Streamed : {A : Type 0} → Program → (old new : Asker) → Result A ServeFault → (reader writer : Change) → Type 0
-Streamed program old new result reader writer = StreamEnds (of_desk program) old new result reader writer
+abbrev pub Streamed : {A : Type 0} → (old new : Asker) → Result A ServeFault → (reader writer : Change) → Type 0
+Streamed old new result reader writer = StreamEnds of_desk old new result reader writer
 
 -- the device is as it was
 abbrev pub IsStill : Change → Type 0
 IsStill device = device.new ≡ device.old
 
 -- how a stream ended, which is begun where all workers have started, and only there
-abbrev pub StreamedIf : {A : Type 0} → Program → (started : Bool) → (old new : Asker) → Option (Result A ServeFault)
-    → (reader writer : Change) → Type 0
-StreamedIf program started old new (Some served) reader writer = (started ≡ true) × Streamed program old new served reader writer
-StreamedIf program started old new None reader writer = (started ≡ false) × (IsStill reader × IsStill writer)
+abbrev pub StreamedIf : {A : Type 0} → (started : Bool) → (old new : Asker) → Option (Result A ServeFault) → (reader writer : Change)
+    → Type 0
+StreamedIf started old new (Some served) reader writer = (started ≡ true) × Streamed old new served reader writer
+StreamedIf started old new None reader writer = (started ≡ false) × (IsStill reader × IsStill writer)
 
--- what is told of a stream and of the end of the sharing
+-- what is told of a stream and of the end of the sharing: the stream's fault only where that has settled
 abbrev pub EndedWith : {A E : Type 0} → Result E ServeFault → (settled : Type 0) → Result A DebugFault → Type 0
-EndedWith (Err fault) settled result = IfErr result (λ told. told ≡ Serve fault) × OnOk result ⊥
+EndedWith (Err fault) settled result =
+    IfErr result (λ told. ((told ≡ Serve fault) × settled) ⊎ (told ≡ Threads)) × OnOk result ⊥
 EndedWith (Ok v) settled result = OnOk result settled × IfErr result (λ told. told ≡ Threads)
 
 -- how a session beside workers ended

@@ -37,7 +37,7 @@ impl<'a, B: Room, T: Wait> Client for SharedDesk<'a, B, T> {
 
     ghost may_ask = { λ _. Unit {0} };
 
-    ghost gets = { λ _. of_desk B.program };
+    ghost gets = { λ _. of_desk };
 
     fn ask(&mut self, alloc: Global, command: Command, text: &mut Vec<u8>) -> Result<(), NoMemory> {
         put_answer(text, self.desk.ask(self.rt, alloc, self.shared, command))
@@ -57,9 +57,9 @@ pub fn serve_desk<B: Room, T: Wait, R: BufRead, W: Write>(
     reader: &mut Counted<R>,
     writer: &mut Counted<W>,
 ) -> Result<(), ServeFault>
-    ensures ok { OnOk result (Serves B.program desk.old desk.new
+    ensures ok { OnOk result (Serves desk.old desk.new
         (change R.remaining reader.old reader.new) (change W.contents writer.old writer.new)) }
-    ensures err { IfErr result (λ fault. Leaves B.program fault desk.old desk.new
+    ensures err { IfErr result (λ fault. Leaves fault desk.old desk.new
         (change R.remaining reader.old reader.new) (change W.contents writer.old writer.new)) }
     ensures reads { OnOk result (NeverFails (change R.remaining reader.old reader.new)) }
     ensures writes { OnOk result (NeverFails (change W.contents writer.old writer.new)) }

@@ -3,8 +3,7 @@ ghost use Rattle.std.specs.Prelude.{◌≡◌, ◌==◌, ◌<◌, ◌≤◌, [],
 ghost use Rattle.std.specs.Prelude.{OnOk, IfOk, IfErr, IfSome, IfNone, IsTrue};
 ghost use Rattle.gr_program.specs.Views.{program_of};
 ghost use Rattle.gr_lines.specs.Devices.{change};
-ghost use Rattle.gr_serve.specs.Debug.{BlamesDevice};
-ghost use Rattle.rewind.specs.Beside.{Settled, Streamed, EndedWith, BesideEnds, DebuggedBeside, BesideLeft, StreamedIf, IsStill};
+ghost use Rattle.rewind.specs.Beside.{Settled, Streamed, EndedWith, BesideEnds, BlamesBeside, DebuggedBeside, BesideLeft, StreamedIf, IsStill};
 
 use crate::desk::serve_desk;
 use crate::started::Started;
@@ -58,7 +57,7 @@ impl<'a, 'r, 'w, B: Room, T: Wait, R: BufRead, W: Write> Task for Stream<'a, 'r,
     );
 
     ghost gives = { λ s started r. (r.1.ghost_name ≡ s.reader.ghost_name) × (r.2.ghost_name ≡ s.writer.ghost_name)
-        × StreamedIf B.program started s.desk r.0 r.3
+        × StreamedIf started s.desk r.0 r.3
         (change R.remaining s.reader.now r.1.now) (change W.contents s.writer.now r.2.now) };
 
     fn run(
@@ -93,7 +92,7 @@ fn serve_if<B: Room, T: Wait, R: BufRead, W: Write>(
     reader: &mut Counted<R>,
     writer: &mut Counted<W>,
 ) -> Option<Result<(), ServeFault>>
-    ensures { StreamedIf B.program started desk.old desk.new result
+    ensures { StreamedIf started desk.old desk.new result
         (change R.remaining reader.old reader.new) (change W.contents writer.old writer.new) }
 {
     if started {
@@ -112,7 +111,7 @@ fn serve<B: Room, T: Wait, R: BufRead, W: Write>(
     reader: &mut Counted<R>,
     writer: &mut Counted<W>,
 ) -> Result<(), ServeFault>
-    ensures { Streamed B.program desk.old desk.new result
+    ensures { Streamed desk.old desk.new result
         (change R.remaining reader.old reader.new) (change W.contents writer.old writer.new) }
 {
     match serve_desk(rt, alloc, shared, desk, reader, writer) {
@@ -194,7 +193,7 @@ fn serve_among<B: Room + Send + Sync, T: Threads + Wait + Sync, R: BufRead, W: W
     reader: &mut Counted<R>,
     writer: &mut Counted<W>,
 ) -> Option<(Desk<B>, Result<(), ServeFault>)>
-    ensures served { IfSome result (λ r. Streamed B.program desk r.0 r.1
+    ensures served { IfSome result (λ r. Streamed desk r.0 r.1
         (change R.remaining reader.old reader.new) (change W.contents writer.old writer.new)) }
     ensures none { IfNone result (IsStill (change R.remaining reader.old reader.new)
         × IsStill (change W.contents writer.old writer.new)) }
@@ -232,6 +231,7 @@ fn room_for_desk<B: Room>(alloc: Global) -> Result<Vec<Desk<B>>, NoMemory>
 /// Ends the sharing. Whether all seats were there: then each desk's entries are its calls. The session's memory is not given
 /// back: this is the last thing that a program does.
 fn settle<B: Room>(shared: Shared<B>, desks: Vec<Desk<B>>, workers: Vec<Worker<B>>) -> bool
+    requires { shared.first ≡ 0 }
     ensures { IsTrue result → Settled B.program desks.items }
 {
     match finish(shared, desks, workers) {
@@ -247,25 +247,22 @@ fn settle<B: Room>(shared: Shared<B>, desks: Vec<Desk<B>>, workers: Vec<Worker<B
     }
 }
 
-/// Ends the sharing once a stream was served.
+/// Ends the sharing once a stream was served. The stream's fault is told only where no seat was missing.
 fn ended<B: Room>(
     shared: Shared<B>,
     desks: Vec<Desk<B>>,
     workers: Vec<Worker<B>>,
     served: Result<(), ServeFault>,
 ) -> Result<(), DebugFault>
+    requires { shared.first ≡ 0 }
     ensures { EndedWith served (Settled B.program desks.items) result }
 {
-    let whole = settle(shared, desks, workers);
+    if !settle(shared, desks, workers) {
+        return Err(DebugFault::Threads);
+    }
     match served {
+        Ok(()) => Ok(()),
         Err(fault) => Err(DebugFault::Serve(fault)),
-        Ok(()) => {
-            if whole {
-                Ok(())
-            } else {
-                Err(DebugFault::Threads)
-            }
-        }
     }
 }
 
@@ -282,6 +279,7 @@ fn serve_beside<B: Room + Send + Sync, T: Threads + Wait + Sync, R: BufRead, W: 
     requires table { opened.table ≡ B.table }
     requires session { (program_of opened.session.program ≡ B.program) × (opened.session.askers ≡ B.first) }
     requires before { opened.session.journal ≡ B.before }
+    requires fresh { opened.session.askers ≡ 0 }
     ensures { BesideEnds B.program result
         (change R.remaining reader.old reader.new) (change W.contents writer.old writer.new) }
 {
@@ -310,10 +308,11 @@ fn serve_beside<B: Room + Send + Sync, T: Threads + Wait + Sync, R: BufRead, W: 
 /// them, and shares the session no more.
 ///
 /// The answers are those of a legal journal of the source's program, in which the desk's entries are its commands, in their
-/// order.
+/// order. All other entries are turns and batches of the workers. That holds after `Read`, `Write` and `Memory`, too, for the
+/// commands that were answered.
 ///
 /// `Threads` means one of two things. Either a thread could not be started, and no command was read; or seats were missing in
-/// the end, and all lines were served. The other faults mean what they mean in `debug`.
+/// the end, whether or not all lines were served. The other faults mean what they mean in `debug`.
 pub fn debug_beside<S: Read, R: BufRead, W: Write, T: Threads + Wait + Sync>(
     rt: &T,
     alloc: Global,
@@ -326,7 +325,7 @@ pub fn debug_beside<S: Read, R: BufRead, W: Write, T: Threads + Wait + Sync>(
         (change R.remaining reader.old reader.new) (change W.contents writer.old writer.new)) }
     ensures err { IfErr result (λ fault. BesideLeft fault (change S.remaining source.old source.new)
         (change R.remaining reader.old reader.new) (change W.contents writer.old writer.new)) }
-    ensures blames { IfErr result (λ fault. BlamesDevice fault (change S.remaining source.old source.new)
+    ensures blames { IfErr result (λ fault. BlamesBeside fault (change S.remaining source.old source.new)
         (change R.remaining reader.old reader.new) (change W.contents writer.old writer.new)) }
 {
     let session = match open_source(alloc, source) {

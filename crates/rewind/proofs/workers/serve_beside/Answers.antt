@@ -1,7 +1,7 @@
 use Rattle.std.proofs.Common.{◌≡◌, [], ◌∷◌, ◌++◌, subst, ap, ◌∙◌}
-use Rattle.gr_lines.specs.Devices.{change}
+use Rattle.gr_lines.specs.Devices.{change, known}
 use Rattle.rewind.specs.Beside.{Settled, Streamed, EndedWith}
-use Rattle.rewind.proofs.Sharing.{ends, no_threads}
+use Rattle.rewind.proofs.Sharing.{ends, no_memory, no_threads}
 use Rattle.rewind.proofs.workers.serve_beside.Goals as goal
 
 pub returns-in-None : goal.returns-in-None
@@ -13,7 +13,11 @@ pub returns-in-Some : goal.returns-in-Some
 returns-in-Some g c =
     let reader = change g.R.Read.remaining c.args.reader.now c.serve_among.new.reader in
     let writer = change g.W.Write.contents c.args.writer.now c.serve_among.new.writer in
-    let streamed : Streamed g.B.Room.program c.in-Ok.desk c.in-Some.desk c.in-Some.served reader writer = rw (c.in-Some.desk-is, c.in-Some.served-is) c.in-Some.ensures.served in
+    let streamed : Streamed c.in-Ok.desk c.in-Some.desk c.in-Some.served reader writer = rw (c.in-Some.desk-is, c.in-Some.served-is) c.in-Some.ensures.served in
     let one : c.push_reserved.new.self.items ≡ c.in-Some.desk ∷ [] = c.push_reserved.ensures.items ∙ ap (λ ds. ds ++ c.in-Some.desk ∷ []) c.in-Ok-room_for_desk.ensures.empty.0 in
     ends g.B.Room.program c.in-Some.served c.ended.result c.in-Ok.desk c.in-Some.desk reader writer c.in-Ok.ensures.desk.0 streamed
     (subst (λ ds. EndedWith c.in-Some.served (Settled g.B.Room.program ds) c.ended.result) one c.ended.ensures)
+
+pub returns-in_default-seats : goal.returns-in_default-seats
+returns-in_default-seats g c =
+    no_memory g.B.Room.program (known g.R.Read.remaining c.args.reader.now) (known g.W.Write.contents c.args.writer.now)
