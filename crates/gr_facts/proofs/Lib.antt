@@ -1,0 +1,7 @@
+pub mod PlaceLemmas
+pub mod StoodLemmas
+pub mod FactLemmas
+mod AskLemmas
+mod NameLemmas
+mod WriterLemmas
+mod SourceLemmas

@@ -1,0 +1,6 @@
+-- What is told of a step, by the rules and by its record.
+pub mod Facts
+pub mod Views
+pub mod Asked
+pub mod Sources
+pub mod Recorded
