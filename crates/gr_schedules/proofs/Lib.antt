@@ -2,7 +2,7 @@ pub mod ScheduleLemmas
 -- Local steps may be taken alone.
 mod LocalSteps
 mod GoTouches
-mod AloneLemmas
+pub mod AloneLemmas
 -- States in which the same matters go on alike.
 mod LikeAttempts
 mod LikeRules
