@@ -6,3 +6,4 @@ pub mod Texts
 pub mod Room
 pub mod Examples
 pub mod Laws
+pub mod Requests

@@ -95,7 +95,7 @@ fn alone(line: Line, rest: &[u8]) -> Option<Line>
     }
 }
 
-fn without_return(line: &[u8]) -> &[u8]
+pub(crate) fn without_return(line: &[u8]) -> &[u8]
     ensures { result.now ≡ strip_last 13 line.now }
 {
     match line.split_last() {
