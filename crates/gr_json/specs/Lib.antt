@@ -1,0 +1,4 @@
+-- JSON of what a session tells.
+pub mod Parts
+pub mod Replies
+pub mod Facts
