@@ -57,11 +57,11 @@ meaning-kept text kept e = elim (kept_means LINE_LIMIT text kept e) [
   | inr long ↦ too_long kept long.0 ∙ sym (too_long text long.1)
 ]
 
-nothing_kept : (n : ℕ) (text kept : List ℕ) → kept ≡ take (n + 1) text → length kept ≡ 0 → text ≡ []
+pub nothing_kept : (n : ℕ) (text kept : List ℕ) → kept ≡ take (n + 1) text → length kept ≡ 0 → text ≡ []
 nothing_kept n [] kept e z = refl
 nothing_kept n (t ∷ ts) kept e z = absurd (omega (arith, length-take (n + 1) (t ∷ ts), ap length e))
 
-something_kept : (n : ℕ) (text kept : List ℕ) → kept ≡ take (n + 1) text → 0 < length kept → 0 < length text
+pub something_kept : (n : ℕ) (text kept : List ℕ) → kept ≡ take (n + 1) text → 0 < length kept → 0 < length text
 something_kept n text kept e z = omega (arith, length-take (n + 1) text, ap length e)
 
 -- a line with its newline was read and served, and was no `quit`

@@ -1,0 +1,3 @@
+mod Rows
+mod Replying
+mod SoFar

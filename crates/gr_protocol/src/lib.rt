@@ -1,0 +1,9 @@
+//! The protocol of clients: commands and queries, a line each, and a line of JSON for each answer.
+#![tactic(auto)]
+
+pub mod about;
+pub mod answering;
+pub mod serving;
+
+pub use answering::answer_line;
+pub use serving::serve;
