@@ -1,8 +1,9 @@
 -- The number that a text gives, and what a command line asks for.
-use Rattle.std.proofs.Common.{◌≡◌, ◌<◌, ◌≤◌, ◌^◌, ℕ, Bool, List, Option, Some, None, true, false, is_some, refl, ap, subst, ◌∙◌, arith}
+use Rattle.std.proofs.Common.{◌≡◌, ◌<◌, ◌≤◌, ◌^◌, ℕ, Bool, List, [], Option, Some, None, true, false, is_some, Result, Ok, Err, OnOk, refl, ap, subst, ◌∙◌, arith}
 use Rattle.std.proofs.lemmas.Bool.{ltb-true}
 use Rattle.std.specs.Str.Parse.{IsNumeral, digits_value, without_leading_plus}
-use Rattle.clap.specs.Words.{Accepts, App, HasMatchesOf, Row, Text, first_of, first_value, found_of, matches_of, rows_of}
+use Rattle.clap.specs.Words.{Accepts, App, FailsBy, HasMatchesOf, fault_of, is_simple_and_free, Row, Text, first_of, first_value, found_of, matches_of, rows_of}
+use Rattle.clap.specs.declared.error.Error.{Error}
 use Rattle.clap.specs.declared.parser.matches.ArgMatches.{ArgMatches}
 use Rattle.clap.specs.ValueTests.{accepts}
 use Rattle.clap.specs.declared.builder.value_parser.ValueParser.TheVariants.{Unsigned}
@@ -43,6 +44,12 @@ module _ (least most : ℕ) (text : Text) where
 -- the matches of a parse are those of the command line
 pub matched : (a : App) (words : List Text) (found : ArgMatches) → a ≡ rewind_line → HasMatchesOf a words found → rows_of (found_of found) ≡ matches_of rewind_line words
 matched a words found is has = (subst (λ b. HasMatchesOf b words found) is has refl).0
+
+-- where a parse by a simple command line succeeds, no rule was broken
+pub none_failed : {T : Type 0} (result : Result T Error) (a : App) (words : List Text) → a ≡ rewind_line → is_simple_and_free rewind_line ≡ true
+    → (is_simple_and_free a ≡ true → FailsBy (fault_of a words) result) → OnOk result (fault_of rewind_line words ≡ [])
+none_failed (Ok found) a words is simple fails = subst (λ b. is_simple_and_free b ≡ true → fault_of b words ≡ []) is fails simple
+none_failed (Err error) a words is simple fails = tt
 
 -- what the matches of a parse ask for
 pub found_asks : (found : Found) (rows : List Row) → rows_of found ≡ rows → asked_by (first_value found) ≡ asked_by (λ name. first_of name rows)

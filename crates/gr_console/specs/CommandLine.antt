@@ -36,11 +36,13 @@ states_rule = number_rule (codes "states") 1 STATE_LIMIT
 abbrev pub bare_line : App
 bare_line = on_top (λ top. record top { has_version = true }) (new_app (codes "rewind"))
 
+-- `rewind`, with FILE and the options that name the file of a session
+abbrev pub session_line : App
+session_line = with_rule (with_rule (with_rule bare_line file_rule) (option_rule (codes "check"))) (option_rule (codes "json"))
+
 -- `rewind`, with FILE and the options that name a file
 abbrev pub file_line : App
-file_line =
-    with_rule (with_rule (with_rule (with_rule bare_line file_rule) (option_rule (codes "check"))) (option_rule (codes "search")))
-    (option_rule (codes "blame"))
+file_line = with_rule (with_rule session_line (option_rule (codes "search"))) (option_rule (codes "blame"))
 
 -- `rewind`, with all its options
 abbrev pub rewind_line : App
@@ -52,6 +54,7 @@ rewind_line =
 pub data Asked : Type 0 where
   Debugs : (file : Text) (workers : ℕ) → Asked
   Checks : (file : Text) → Asked
+  Tells : (file : Text) → Asked
   Explains : (code : Text) → Asked
   Searches : (file : Text) (after : Option Text) (states : ℕ) → Asked
   Blames : (file after : Text) (states : ℕ) → Asked
@@ -59,6 +62,7 @@ pub data Asked : Type 0 where
 abbrev pub asked_of : Settings → Asked
 asked_of (settings.Debug file workers) = Debugs file.now workers
 asked_of (settings.Check file) = Checks file.now
+asked_of (settings.Tell file) = Tells file.now
 asked_of (settings.Explain code) = Explains code.now
 asked_of (settings.Search file after states) = Searches file.now (option_map (λ text. text.now) after) states
 asked_of (settings.Blame file after states) = Blames file.now after.now states
@@ -67,6 +71,7 @@ asked_of (settings.Blame file after states) = Blames file.now after.now states
 abbrev pub HasFewWorkers : Settings → Type 0
 HasFewWorkers (settings.Debug file workers) = workers ≤ WORKER_LIMIT
 HasFewWorkers (settings.Check file) = Unit {0}
+HasFewWorkers (settings.Tell file) = Unit {0}
 HasFewWorkers (settings.Explain code) = Unit {0}
 HasFewWorkers (settings.Search file after states) = Unit {0}
 HasFewWorkers (settings.Blame file after states) = Unit {0}
@@ -96,6 +101,7 @@ blames file after states = option_map (λ n. Blames file after n) (states_in sta
 pub data AskedWay : Type 0 where
   OfSession : (file : Text) → AskedWay
   OfCheck : (file : Text) → AskedWay
+  OfTelling : (file : Text) → AskedWay
   OfCode : (code : Text) → AskedWay
   OfSearch : (file : Text) → AskedWay
   OfBlame : (file : Text) → AskedWay
@@ -103,24 +109,28 @@ pub data AskedWay : Type 0 where
 abbrev pub way_of : Way → AskedWay
 way_of (ways.Session file) = OfSession file.now
 way_of (ways.Check file) = OfCheck file.now
+way_of (ways.Tell file) = OfTelling file.now
 way_of (ways.Explain code) = OfCode code.now
 way_of (ways.Search file) = OfSearch file.now
 way_of (ways.Blame file) = OfBlame file.now
 
--- the one way in which something is asked, by FILE, `--check`, `--explain`, `--search` and `--blame`: just one of them is given
-abbrev pub the_way : Option Text → Option Text → Option Text → Option Text → Option Text → Option AskedWay
-the_way (Some file) None None None None = Some (OfSession file)
-the_way None (Some file) None None None = Some (OfCheck file)
-the_way None None (Some code) None None = Some (OfCode code)
-the_way None None None (Some file) None = Some (OfSearch file)
-the_way None None None None (Some file) = Some (OfBlame file)
-the_way file check explain search blame = None
+-- the one way in which something is asked, by FILE, `--check`, `--json`, `--explain`, `--search` and `--blame`: just one of them
+-- is given
+abbrev pub the_way : Option Text → Option Text → Option Text → Option Text → Option Text → Option Text → Option AskedWay
+the_way (Some file) None None None None None = Some (OfSession file)
+the_way None (Some file) None None None None = Some (OfCheck file)
+the_way None None (Some file) None None None = Some (OfTelling file)
+the_way None None None (Some code) None None = Some (OfCode code)
+the_way None None None None (Some file) None = Some (OfSearch file)
+the_way None None None None None (Some file) = Some (OfBlame file)
+the_way file check json explain search blame = None
 
 -- What is asked in such a way with the values of `--workers`, `--after` and `--states`. A session takes the first of them, a
 -- search the other two, and a blame these two, of which it needs the script. No other is taken.
 abbrev pub asked_with : AskedWay → Option Text → Option Text → Option Text → Option Asked
 asked_with (OfSession file) workers None None = debugs file workers
 asked_with (OfCheck file) None None None = Some (Checks file)
+asked_with (OfTelling file) None None None = Some (Tells file)
 asked_with (OfCode code) None None None = Some (Explains code)
 asked_with (OfSearch file) None after states = searches file after states
 asked_with (OfBlame file) None (Some after) states = blames file after states
@@ -130,7 +140,7 @@ asked_with way workers after states = None
 abbrev pub asked_by : (Text → Option Text) → Option Asked
 asked_by value =
     option_and_then (λ way. asked_with way (value (codes "workers")) (value (codes "after")) (value (codes "states")))
-    (the_way (value (codes "FILE")) (value (codes "check")) (value (codes "explain")) (value (codes "search")) (value (codes "blame")))
+    (the_way (value (codes "FILE")) (value (codes "check")) (value (codes "json")) (value (codes "explain")) (value (codes "search")) (value (codes "blame")))
 
 -- what the words of a command line ask for; the first of them is the program's own name
 abbrev pub asked_in : List Text → Option Asked

@@ -2,15 +2,15 @@
 ghost use Rattle.std.specs.Prelude.{◌≡◌, ◌≤◌, [], IfOk, IfErr, IfSome, OnOk, Some, true, false, is_some, option_map, map, codes};
 ghost use Rattle.clap.specs.Words.{app_of, fault_of, found_of, first_value, kind_of, rows_of, rule_of, takes, matches_of};
 ghost use Rattle.clap.specs.Words.{with_rule};
-ghost use Rattle.gr_console.specs.CommandLine.{bare_line, file_line, rewind_line, file_rule, option_rule, workers_rule, states_rule};
+ghost use Rattle.gr_console.specs.CommandLine.{bare_line, session_line, file_line, rewind_line, file_rule, option_rule, workers_rule, states_rule};
 ghost use Rattle.gr_console.specs.CommandLine.{debugs as session_over, searches as search_of, blames as blame_of};
 ghost use Rattle.gr_console.specs.CommandLine.{number_in, states_in, way_of, the_way, asked_with, asked_of, asked_by, asked_in};
 ghost use Rattle.gr_console.specs.CommandLine.{HasFewWorkers};
 
 use crate::settings::{STATE_LIMIT, Settings, USUAL_STATES, WORKER_LIMIT};
 use crate::words::{
-    ABOUT, AFTER_HELP, BLAME_HELP, CHECK_HELP, EXPLAIN_HELP, FILE_HELP, HELP, NOTHING_ASKED,
-    SEARCH_HELP, STATES_HELP, TOO_MUCH_ASKED, USAGE, VERSION, WORKERS_HELP,
+    ABOUT, AFTER_HELP, BLAME_HELP, CHECK_HELP, EXPLAIN_HELP, FILE_HELP, HELP, JSON_HELP,
+    NOTHING_ASKED, SEARCH_HELP, STATES_HELP, TOO_MUCH_ASKED, USAGE, VERSION, WORKERS_HELP,
 };
 use clap::error::ErrorKind;
 use clap::{Arg, ArgAction, ArgMatches, Command, Error, value_parser};
@@ -21,6 +21,7 @@ use std::alloc::{AllocError, Global};
 enum Way<'a> {
     Session(&'a str),
     Check(&'a str),
+    Tell(&'a str),
     Explain(&'a str),
     Search(&'a str),
     Blame(&'a str),
@@ -44,6 +45,17 @@ fn check_argument<'a>(alloc: Global) -> Arg<'a>
         .value_name("FILE")
         .action(ArgAction::Set)
         .help(CHECK_HELP)
+}
+
+fn json_argument<'a>(alloc: Global) -> Arg<'a>
+    ensures rule { rule_of result ≡ option_rule (codes "json") }
+    ensures own { result.global ≡ false }
+{
+    Arg::new(alloc, "json")
+        .long("json")
+        .value_name("FILE")
+        .action(ArgAction::Set)
+        .help(JSON_HELP)
 }
 
 fn explain_argument<'a>(alloc: Global) -> Arg<'a>
@@ -132,14 +144,22 @@ fn with_argument<'a>(command: Command<'a>, argument: Arg<'a>) -> Result<Command<
     command.arg(argument)
 }
 
-/// The command with the arguments that name a file.
-fn file_command<'a>(alloc: Global) -> Result<Command<'a>, AllocError>
-    ensures { IfOk result (λ command. app_of command ≡ file_line) }
+/// The command with the arguments that name the file of a session.
+fn session_command<'a>(alloc: Global) -> Result<Command<'a>, AllocError>
+    ensures { IfOk result (λ command. app_of command ≡ session_line) }
 {
     let bare = bare_command(alloc);
     let with_file = with_argument(bare, file_argument(alloc))?;
     let with_check = with_argument(with_file, check_argument(alloc))?;
-    let with_search = with_argument(with_check, search_argument(alloc))?;
+    with_argument(with_check, json_argument(alloc))
+}
+
+/// The command with the arguments that name a file.
+fn file_command<'a>(alloc: Global) -> Result<Command<'a>, AllocError>
+    ensures { IfOk result (λ command. app_of command ≡ file_line) }
+{
+    let of_session = session_command(alloc)?;
+    let with_search = with_argument(of_session, search_argument(alloc))?;
     with_argument(with_search, blame_argument(alloc))
 }
 
@@ -232,6 +252,7 @@ fn with_options<'a>(
     match (way, workers, after, states) {
         (Way::Session(file), workers, None, None) => debugs(file, workers),
         (Way::Check(file), None, None, None) => Some(Settings::Check { file }),
+        (Way::Tell(file), None, None, None) => Some(Settings::Tell { file }),
         (Way::Explain(code), None, None, None) => Some(Settings::Explain { code }),
         (Way::Search(file), None, after, states) => searches(file, after, states),
         (Way::Blame(file), None, Some(after), states) => blames(file, after, states),
@@ -243,20 +264,23 @@ fn with_options<'a>(
 fn only_way<'a>(
     file: Option<&'a str>,
     check: Option<&'a str>,
+    json: Option<&'a str>,
     explain: Option<&'a str>,
     search: Option<&'a str>,
     blame: Option<&'a str>,
 ) -> Option<Way<'a>>
     ensures { option_map way_of result ≡ the_way (option_map (λ text. text.now) file.entry)
-        (option_map (λ text. text.now) check.entry) (option_map (λ text. text.now) explain.entry)
-        (option_map (λ text. text.now) search.entry) (option_map (λ text. text.now) blame.entry) }
+        (option_map (λ text. text.now) check.entry) (option_map (λ text. text.now) json.entry)
+        (option_map (λ text. text.now) explain.entry) (option_map (λ text. text.now) search.entry)
+        (option_map (λ text. text.now) blame.entry) }
 {
-    match (file, check, explain, search, blame) {
-        (Some(file), None, None, None, None) => Some(Way::Session(file)),
-        (None, Some(file), None, None, None) => Some(Way::Check(file)),
-        (None, None, Some(code), None, None) => Some(Way::Explain(code)),
-        (None, None, None, Some(file), None) => Some(Way::Search(file)),
-        (None, None, None, None, Some(file)) => Some(Way::Blame(file)),
+    match (file, check, json, explain, search, blame) {
+        (Some(file), None, None, None, None, None) => Some(Way::Session(file)),
+        (None, Some(file), None, None, None, None) => Some(Way::Check(file)),
+        (None, None, Some(file), None, None, None) => Some(Way::Tell(file)),
+        (None, None, None, Some(code), None, None) => Some(Way::Explain(code)),
+        (None, None, None, None, Some(file), None) => Some(Way::Search(file)),
+        (None, None, None, None, None, Some(file)) => Some(Way::Blame(file)),
         _ => None,
     }
 }
@@ -269,6 +293,7 @@ fn asked<'a>(matches: &ArgMatches<'a>) -> Option<Settings<'a>>
     let way = only_way(
         matches.get_str("FILE"),
         matches.get_str("check"),
+        matches.get_str("json"),
         matches.get_str("explain"),
         matches.get_str("search"),
         matches.get_str("blame"),
@@ -310,8 +335,8 @@ fn told(alloc: Global, kind: ErrorKind, message: &str) -> Result<Error, AllocErr
     command.error(kind, message)
 }
 
-/// What a command line asks for: `rewind FILE`, `rewind FILE --workers N`, `rewind --check FILE`, `rewind --explain CODE`,
-/// `rewind --search FILE` or `rewind --blame FILE --after SCRIPT`. Its first word is the program's own name.
+/// What a command line asks for: `rewind FILE`, `rewind FILE --workers N`, `rewind --check FILE`, `rewind --json FILE`,
+/// `rewind --explain CODE`, `rewind --search FILE` or `rewind --blame FILE --after SCRIPT`. Its first word is the program's own name.
 ///
 /// An error is `clap`'s, with its words for the user. The command line is of none of these forms, asks for help or the version,
 /// or there is no memory for it.

@@ -21,6 +21,10 @@ pub enum Settings<'a> {
     Check {
         file: &'a str,
     },
+    /// A session over the program in this file by the protocol of clients.
+    Tell {
+        file: &'a str,
+    },
     /// What a code means.
     Explain {
         code: &'a str,

@@ -10,6 +10,7 @@ nothing else.";
 pub(crate) const USAGE: &str = "\
 rewind [--workers <N>] <FILE>
        rewind --check <FILE>
+       rewind --json <FILE>
        rewind --search <FILE> [--after <SCRIPT>] [--states <N>]
        rewind --blame <FILE> --after <SCRIPT> [--states <N>]
        rewind --explain <CODE>";
@@ -71,10 +72,10 @@ Example:
 command and reply.";
 
 pub(crate) const NOTHING_ASKED: &str = "\
-one of FILE, '--check <FILE>', '--explain <CODE>', '--search <FILE>' and '--blame <FILE>' is required";
+one of FILE, '--check <FILE>', '--json <FILE>', '--explain <CODE>', '--search <FILE>' and '--blame <FILE>' is required";
 
 pub(crate) const TOO_MUCH_ASKED: &str = "\
-FILE, '--check <FILE>', '--explain <CODE>', '--search <FILE>' and '--blame <FILE>' exclude each other. '--workers <N>' goes with FILE alone. '--after <SCRIPT>' and '--states <N>' go with '--search' and '--blame', and '--blame' needs '--after'";
+FILE, '--check <FILE>', '--json <FILE>', '--explain <CODE>', '--search <FILE>' and '--blame <FILE>' exclude each other. '--workers <N>' goes with FILE alone. '--after <SCRIPT>' and '--states <N>' go with '--search' and '--blame', and '--blame' needs '--after'";
 
 pub(crate) const FILE_HELP: &str = "The source to debug, by the commands on standard input";
 
@@ -83,6 +84,9 @@ The number of workers (0 to 64), which take steps on their own, as many in all a
 
 pub(crate) const CHECK_HELP: &str = "\
 Only checks the source: prints nothing if it is accepted, else the line of its refusal";
+
+pub(crate) const JSON_HELP: &str = "\
+Debugs the source for a client: commands and queries in, a line of JSON for each out";
 
 pub(crate) const SEARCH_HELP: &str = "\
 Searches all schedules for one that ends badly, and writes its commands";
@@ -115,6 +119,7 @@ error: invalid UTF-8 was detected in one or more arguments
 
 Usage: rewind [--workers <N>] <FILE>
        rewind --check <FILE>
+       rewind --json <FILE>
        rewind --search <FILE> [--after <SCRIPT>] [--states <N>]
        rewind --blame <FILE> --after <SCRIPT> [--states <N>]
        rewind --explain <CODE>

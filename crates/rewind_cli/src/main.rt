@@ -1,6 +1,7 @@
-//! The program `rewind`. `rewind FILE` debugs the Go program in FILE by the commands of standard input, `rewind --check FILE`
-//! only tells whether it is accepted, and `rewind --explain CODE` tells what a code means. `rewind --search FILE` searches all
-//! schedules for one that ends badly, and `rewind --blame FILE --after SCRIPT` tells after which step none ends well any more.
+//! The program `rewind`. `rewind FILE` debugs the Go program in FILE by the commands of standard input, and `rewind --json FILE`
+//! does so for a client, by lines of JSON. `rewind --check FILE` only tells whether it is accepted, and `rewind --explain CODE`
+//! tells what a code means. `rewind --search FILE` searches all schedules for one that ends badly, and
+//! `rewind --blame FILE --after SCRIPT` tells after which step none ends well any more.
 //!
 //! Exit status: 0 at `quit` or at the end of the commands, and where a search has its answer; 1 where FILE cannot be read or is no
 //! program, with one line on standard error; 2 where the command line or a command of SCRIPT is refused; 3 where reading, writing
@@ -12,6 +13,7 @@ mod searching;
 
 use clap::error::{Error, ErrorKind};
 use files::tell_of;
+use gr_protocol::serving::debug as debug_told;
 use rewind::command_line::settings;
 use rewind::counted::Counted;
 use rewind::debug::{DebugFault, check, debug};
@@ -107,6 +109,20 @@ fn debug_file<T: Threads + Wait + Sync>(
     }
 }
 
+/// Debugs the program in a file for a client, by lines of JSON.
+fn tell_file(rt: &HostRuntime, file: &str) -> io::Result<ExitCode> {
+    let Ok(opened) = File::open(rt, file) else {
+        return Ok(fail(rt, &DebugFault::Source, file));
+    };
+    let mut source = Counted::new(BufReader::new(rt.alloc(), opened)?);
+    let mut reader = Counted::new(BufReader::new(rt.alloc(), rt.stdin())?);
+    let mut writer = Counted::new(rt.stdout());
+    match debug_told(rt.alloc(), &mut source, &mut reader, &mut writer) {
+        Ok(()) => Ok(ExitCode::from(0)),
+        Err(fault) => Ok(fail(rt, &fault, file)),
+    }
+}
+
 /// Tells whether the program in a file is accepted.
 fn check_file(rt: &HostRuntime, file: &str) -> io::Result<ExitCode> {
     let Ok(opened) = File::open(rt, file) else {
@@ -146,6 +162,7 @@ fn run<T: Threads + Wait + Sync>(rt: &HostRuntime, threads: &T) -> io::Result<Ex
     match settings(rt.alloc(), texts.as_slice()) {
         Ok(Settings::Debug { file, workers }) => debug_file(rt, threads, file, workers),
         Ok(Settings::Check { file }) => check_file(rt, file),
+        Ok(Settings::Tell { file }) => tell_file(rt, file),
         Ok(Settings::Explain { code }) => Ok(explain_code(rt, code)),
         Ok(
             Settings::Search {
