@@ -195,6 +195,46 @@ def test_a_panic_in_the_shell() -> None:
     assert 'in g0.1 at line 7: panic("division by zero in worker")' in done.stdout, done.stdout
 
 
+SAYS = """package main
+
+import (
+	"errors"
+	"fmt"
+)
+
+var errNone = errors.New("none left")
+
+func ask(name string, n int, out chan string) error {
+	out <- fmt.Sprintf("%s-%d", name, n)
+	return errNone
+}
+
+func main() {
+	out := make(chan string, 2)
+	err := ask("bob", -2, out)
+	fmt.Println(<-out, err)
+}
+"""
+
+
+def test_texts_in_the_shell(tmp_path: Path) -> None:
+    """A number that stands for a text is shown as its text: in a variable, in a channel, and where it is handed over."""
+    path = tmp_path / "says.go"
+    path.write_text(SAYS, encoding="utf-8")
+    done = client("rewind-shell", path, "break 12\nrun 1000\nbt\nprint name\nprint out\nhistory 20\nrun 1000\n")
+    assert 'name="bob" n=-2 out=out (g0/c1) errNone="none left"' in done.stdout, done.stdout
+    assert 'name = "bob"   (in ask)' in done.stdout and 'open, 1 of 2 items: "bob--2"' in done.stdout, done.stdout
+    assert 'sends "bob--2" to out' in done.stdout and "prints: bob - -2 none left" in done.stdout, done.stdout
+
+
+def test_texts_in_the_hunt(tmp_path: Path) -> None:
+    """The steps to a finding tell the texts that are handed over."""
+    path = tmp_path / "says.go"
+    path.write_text(SAYS.replace("make(chan string, 2)", "make(chan string)"), encoding="utf-8")
+    done = client("rewind-hunt", path)
+    assert 'waits to send "bob--2" to out' in done.stdout, done.stdout
+
+
 def test_a_search_in_the_shell(two_locks: Path) -> None:
     """A search of all schedules finds the deadlock, and `why` tells the lines of the source."""
     done = client("rewind-shell", two_locks, "search\nfollow\nwhy\n")
@@ -217,7 +257,7 @@ def test_what_is_left_is_told_at_once() -> None:
     for name in ("rewind-shell", "rewind-hunt"):
         done = client(name, FOLDER / "much_left_out.go")
         assert done.returncode and "These places are not carried:" in done.stderr
-        assert done.stderr.count("\n  ") > 15, done.stderr
+        assert done.stderr.count("\n  ") >= 10, done.stderr
 
 
 def test_without_the_tool(two_locks: Path) -> None:

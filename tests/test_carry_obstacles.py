@@ -13,15 +13,16 @@ from support.places import TOP
 
 # A statement that is not carried, with what is said of it.
 OBSTACLES = {
-    "map": ("seen := map[int]bool{}; _ = seen", "maps are not carried"),
+    "map": ("seen := map[[2]int]bool{}; _ = seen", "a map with such keys is not carried"),
+    "printed map": ("fmt.Println(map[int]int{1: n})", "only numbers, truth values, texts"),
     "interface": ("var any1 interface{} = n; _ = any1", "interfaces are not carried"),
     "real number": ("half := 0.5; _ = half", "is not carried"),
-    "made text": ('text := fmt.Sprintf("%d", n); _ = text', "a text that is made while the program runs"),
-    "joined text": ('name := "a"; name += "b"', "texts that are put together"),
+    "made text": ("text := fmt.Sprintln(n); _ = text", "a text that is made while the program runs"),
+    "ordered text": ('_ = fmt.Sprint(n) < "a"', "texts that are put in order"),
     "goto": ("goto end\n\tend:", "goto is not carried"),
-    "unknown length": ("list := make([]int, n); _ = list", "whose length is not known"),
+    "append": ("list := append([]int{1}, n); _ = list", "append is carried only"),
     "recover": ("recover()", "recover is not carried"),
-    "defer in a block": ("if n > 0 { defer fmt.Println(n) }", "a defer within a block"),
+    "defer in a loop": ("for i := 0; i < n; i++ { defer fmt.Println(i) }", "a defer within a loop with values of its own"),
     "wide array": ("var wide [100]int; _ = wide", "more than 64 elements"),
     "part of a package": ("runtime.NumGoroutine()", "NumGoroutine is not carried"),
     "verb": ('fmt.Printf("%x", n)', "verb"),
@@ -42,12 +43,12 @@ func (w *worker) work(n int) {
 	%(method)s
 }
 
-func called(n int, all map[string]int) int {
+func called(n int, all float64) int {
 	%(called)s
 	return n
 }
 
-func result(n int) (float64, map[string]int) {
+func result(n int) (float64, interface{}) {
 	%(result)s
 	return 1, nil
 }
@@ -55,13 +56,13 @@ func result(n int) (float64, map[string]int) {
 func main() {
 	n := runtime.GOMAXPROCS(0)
 	%(main)s
-	fmt.Println(called(n, map[string]int{"a": 1}))
+	fmt.Println(called(n, 1.5))
 	go func() {
 		%(goroutine)s
 	}()
 	(&worker{n}).work(n)
 	result(n)
-	for range map[int]int{} {
+	for range []float64{} {
 		go func(n int) {
 			%(inner)s
 		}(n)
@@ -96,12 +97,12 @@ def test_each_field_and_result_is_told(tmp_path: Path) -> None:
     text = """package main
 
 type store struct {
-	byName map[string]int
+	byName map[string]float64
 	any    interface{}
 	half   float64
 }
 
-func open() (map[string]int, float64) { return nil, 0 }
+func open() (map[string]float64, float64) { return nil, 0 }
 
 func main() {
 	s := store{}

@@ -1,8 +1,9 @@
 """Programs that were carried over, and all their schedules.
 
-`rewind --search` finds a bad end of each program of carry/testdata that has one among its outcomes, and says of the others that none
-ends badly. The programs of carry/testdata/races have data races: the race detector of Go reports each in the long form, and the
-schedules of the carried program come to more than one outcome, as a lost update or an odd value.
+`rewind --search` finds a bad end of each program of carry/testdata that has one among its outcomes, and says of the others that
+none ends badly. Two programs are searched in a smaller form. The programs of carry/testdata/races have data races: the race
+detector of Go reports each in the long form, and the schedules of the carried program come to more than one outcome, as a lost
+update or an odd value.
 """
 from __future__ import annotations
 
@@ -21,11 +22,14 @@ FOLDER = TOP / "carry" / "testdata"
 NONE_BAD, BAD = 0, 4
 # States that a search keeps, and how long it may take.
 STATES, SECONDS = 1_000_000, 300
-# Programs with more states than a test has time for.
-WIDE = ("fan_in_with_context", "philosophers")
+# Programs with more states than a test has time for, and what makes them smaller.
+WIDE = {
+    "fan_in_with_context": (('"a", 2)', '"a", 1)'), ('"b", 2)', '"b", 1)'), ("count == 3", "count == 1")),
+    "philosophers": (("const N = 5", "const N = 3"),),
+}  # fmt: skip
 SCHEDULES = 300
 RUNS = 5
-PROGRAMS = sorted(it for it in FOLDER.glob("*.go") if it.with_suffix(".outcomes").exists() and it.stem not in WIDE)
+PROGRAMS = sorted(it for it in FOLDER.glob("*.go") if it.with_suffix(".outcomes").exists())
 RACES = sorted((FOLDER / "races").glob("*.go"))
 
 
@@ -37,9 +41,14 @@ def carry() -> None:
 
 @pytest.fixture
 def program(path: Path, tmp_path: Path) -> Path:
-    """The program to which a source is carried over."""
-    out = tmp_path / path.name
-    done = carried(path, out)
+    """The program to which a source is carried over; of a wide one to which its smaller form is."""
+    out, source = tmp_path / path.name, tmp_path / f"{path.stem}_source.go"
+    text = path.read_text(encoding="utf-8")
+    for wide, small in WIDE.get(path.stem, ()):
+        assert wide in text
+        text = text.replace(wide, small)
+    source.write_text(text, encoding="utf-8")
+    done = carried(source, out)
     assert done.returncode == 0, done.stderr
     return out
 

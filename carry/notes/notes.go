@@ -44,6 +44,15 @@ type List struct {
 	known map[Note]bool
 }
 
+// Copy is a list of the same notes, to which others may be added.
+func (l *List) Copy() List {
+	found := List{notes: append([]Note(nil), l.notes...), known: map[Note]bool{}}
+	for note := range l.known {
+		found.known[note] = true
+	}
+	return found
+}
+
 // Add puts a note into the list.
 func (l *List) Add(at token.Position, kind Kind, rule, what, advice string) {
 	note := Note{at.Line, at.Column, kind, rule, what, advice}

@@ -21,6 +21,9 @@ type Report struct {
 	Texts     []string          `json:"texts,omitempty"`
 	Errors    []string          `json:"errors,omitempty"`
 
+	Forms     []translate.FormShown        `json:"forms,omitempty"`
+	Variables map[string]map[string]string `json:"variables,omitempty"`
+
 	// Brief are the notes with one for all places that are carried by one rule in the same way.
 	Brief []notes.Note `json:"-"`
 }
@@ -42,7 +45,10 @@ func Of(name string, text []byte, options translate.Options) Report {
 	if list == nil {
 		list = []notes.Note{}
 	}
-	return Report{told.IsCarried(), name, found.Text, list, found.Places, found.Names, found.Texts, found.Errors, told.Brief()}
+	return Report{
+		Carried: told.IsCarried(), Source: name, Text: found.Text, Notes: list, Places: found.Places, Functions: found.Names,
+		Texts: found.Texts, Errors: found.Errors, Forms: found.Forms, Variables: found.Variables, Brief: told.Brief(),
+	}
 }
 
 // JSON is the report as `--json` and `--map` write it.

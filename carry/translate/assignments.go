@@ -65,6 +65,10 @@ func (f *facts) findAssignments() {
 			}
 		case *ast.SelectorExpr:
 			f.noteMethod(it)
+		case *ast.CallExpr:
+			if slice, ok := f.isCopy(it); ok {
+				f.slices[slice.Elem().String()] = true
+			}
 		case *ast.ValueSpec:
 			f.noteSpec(it)
 		case *ast.AssignStmt:

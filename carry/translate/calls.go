@@ -37,7 +37,10 @@ func (f *function) call(it *ast.CallExpr) []Value {
 			return f.packageCall(it, object)
 		}
 	}
-	called := f.function(fun)
+	called := f.functionOrAny(fun)
+	if _, ok := called.Shape.(AnyFunc); ok {
+		return f.chosen(it, f.choicesOfAny(it, called))
+	}
 	return f.apply(it, called, it.Args, it.Ellipsis != token.NoPos)
 }
 
@@ -53,11 +56,21 @@ func unparen(e ast.Expr) ast.Expr {
 
 // function is a function value whose function is known.
 func (f *function) function(fun ast.Expr) Value {
+	value := f.functionOrAny(fun)
+	if _, ok := value.Shape.(AnyFunc); ok {
+		f.refuse(fun, "functions", "a function value that is not known here is not carried", "call the function by its name")
+	}
+	return value
+}
+
+// functionOrAny is a function value.
+func (f *function) functionOrAny(fun ast.Expr) Value {
 	value := f.value(fun)
 	if tool, ok := isTool(value.Shape); ok && tool == Cancel {
 		return value
 	}
-	if _, ok := value.Shape.(Func); !ok {
+	_, isAny := value.Shape.(AnyFunc)
+	if _, ok := value.Shape.(Func); !ok && !isAny {
 		f.refuse(fun, "functions", "a function value that is not known here is not carried", "call the function by its name")
 	}
 	return value
@@ -89,6 +102,11 @@ func (f *function) prepare(it *ast.CallExpr, fun Value, receiver *Value, argumen
 	shape := fun.Shape.(Func)
 	var shapes []Shape
 	var code []string
+	if shape.Receiver != nil {
+		width := len(shape.Receiver.leaves())
+		receiver = &Value{Shape: shape.Receiver, Code: fun.Code[:width]}
+		fun.Code = fun.Code[width:]
+	}
 	if receiver != nil {
 		shapes, code = append(shapes, receiver.Shape), append(code, receiver.Code...)
 	}
@@ -111,36 +129,6 @@ func (f *function) namesFor(object types.Object) []string {
 		return known.names
 	}
 	return f.globals[object].names
-}
-
-// fitAll makes arguments fit the parameters. Those of a variadic function become a slice.
-func (f *function) fitAll(it *ast.CallExpr, sign *types.Signature, values []Value, spread bool) []Value {
-	count := sign.Params().Len()
-	if sign.Variadic() && !spread {
-		elem := sign.Params().At(count - 1).Type().(*types.Slice).Elem()
-		shape := f.shapeOf(elem, it)
-		rest := Value{Shape: List{len(values) - count + 1, shape}, Binds: atom}
-		for _, value := range values[count-1:] {
-			value = f.fit(value, shape, it)
-			rest.Code, rest.Acts = append(rest.Code, value.Code...), rest.Acts || value.Acts
-		}
-		if f.slices[elem.String()] {
-			rest = Value{Shape: Ref{rest.Shape}, Code: f.celled(rest), Binds: atom, Acts: true}
-		}
-		values = append(values[:count-1:count-1], rest)
-	}
-	for at := range values {
-		t := sign.Params().At(at).Type()
-		switch under(t).(type) {
-		case *types.Slice, *types.Signature:
-			if _, ok := values[at].Shape.(Nothing); ok {
-				f.refuse(it, "functions", "nil in place of a function or a slice is not carried", "write a function that does nothing")
-			}
-		default:
-			values[at] = f.fit(values[at], f.shapeOf(t, it), it)
-		}
-	}
-	return values
 }
 
 // apply calls a function of the program.
@@ -222,6 +210,9 @@ func (f *function) method(it *ast.CallExpr, selector *ast.SelectorExpr, choice *
 	if concrete := f.onlyType(choice.Recv()); concrete != nil {
 		return f.ofOnlyType(it, selector, concrete, object.Name())
 	}
+	if len(f.typesBehind(choice.Recv())) > 1 {
+		return f.ofUnion(it, selector, object.Name())
+	}
 	if known := f.declared[object]; known != nil {
 		receiver := f.receiver(selector, known.sign.Recv().Type(), choice)
 		var arguments []Value
@@ -283,8 +274,13 @@ func (f *function) builtin(it *ast.CallExpr, name string) []Value {
 	case "panic":
 		f.panics(it)
 		return nil
-	case "append", "copy", "delete":
-		f.refuse(it, "slices", name+" is carried only as x = append(x, ..)", "append to a variable, or send the elements over a channel with room for them")
+	case "append":
+		return []Value{f.appended(it)}
+	case "delete":
+		f.deletes(it)
+		return nil
+	case "copy":
+		return []Value{f.copies(it)}
 	case "recover":
 		f.refuse(it, "recover", "recover is not carried: a panic stops the program, and can be taken back", "leave it out")
 	}
@@ -294,7 +290,11 @@ func (f *function) builtin(it *ast.CallExpr, name string) []Value {
 
 func (f *function) length(it *ast.CallExpr, name string) Value {
 	if f.hasPlace(it.Args[0]) {
-		if where := f.place(it.Args[0]); name == "len" && isGrow(where.shape) {
+		if f.isMap(it.Args[0]) {
+			value := f.value(it.Args[0])
+			return single(Num{}, f.mapHelper("map_len", value.Shape.(Map))+"("+commas(value.Code)+")", true)
+		}
+		if where := f.settled(f.place(it.Args[0])); name == "len" && isGrow(where.shape) {
 			return f.read(f.lengthOf(where))
 		}
 	}
@@ -308,6 +308,10 @@ func (f *function) length(it *ast.CallExpr, name string) Value {
 		return single(Num{}, name+"("+value.one()+")", true)
 	case List:
 		return number(kind.Len)
+	case Grow:
+		if name == "len" {
+			return value.part(0, Num{})
+		}
 	}
 	f.refuse(it, "texts", "the length of this value is not carried", "write it as a constant")
 	return Value{}
@@ -324,10 +328,15 @@ func (f *function) made(it *ast.CallExpr) Value {
 			room = ", " + f.value(it.Args[1]).one()
 		}
 		return single(shape, "make(chan "+carried(shape.Elem)+room+")", true)
+	case *types.Map:
+		if len(it.Args) > 1 {
+			f.value(it.Args[1])
+		}
+		return f.newMap(f.shapeOf(t, it).(Map))
 	case *types.Slice:
 		length := f.staticInt(it.Args[1])
 		if length == nil {
-			f.refuse(it, "slices", "a slice whose length is not known here is not carried", "give it a constant length, or send its elements over a channel")
+			return f.madeLong(kind, f.value(it.Args[1]), it)
 		}
 		if *length > mostElements {
 			f.refuse(it, "slices", "a slice of more than 64 elements is not carried", "use fewer")

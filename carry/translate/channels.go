@@ -88,6 +88,7 @@ func (f *function) receive(channel ast.Expr, asks bool) (Value, string) {
 	if !asks && len(shape.Elem.leaves()) <= 1 {
 		return f.received(shape, code), ""
 	}
+	f.moves(shape.Elem)
 	name, open := f.temporary("got"), ""
 	if asks {
 		open = f.temporary("open")
@@ -100,6 +101,7 @@ func (f *function) receive(channel ast.Expr, asks bool) (Value, string) {
 
 // received is a receive as an expression.
 func (f *function) received(shape Chan, code string) Value {
+	f.moves(shape.Elem)
 	found := Value{Shape: shape.Elem, Code: []string{code}, Binds: unary, Acts: true}
 	if len(shape.Elem.leaves()) == 0 {
 		f.emit(code)
@@ -127,6 +129,7 @@ func (f *function) send(it *ast.SendStmt) {
 	}
 	to := sides[0].within(unary)
 	value := f.fit(sides[1], shape.Elem, it)
+	f.moves(shape.Elem)
 	f.emit(to + " <- " + f.packet(value))
 }
 
@@ -134,6 +137,7 @@ func (f *function) send(it *ast.SendStmt) {
 type ready struct {
 	head  string
 	begin func()
+	moves Shape // what goes over the channel, or nil
 }
 
 // readied finds what a case of a select works on.
@@ -142,14 +146,14 @@ func (f *function) readied(comm *ast.CommClause) ready {
 	case *ast.SendStmt:
 		sides := f.all([]ast.Expr{stmt.Chan, stmt.Value})
 		value := f.fit(sides[1], sides[0].Shape.(Chan).Elem, stmt)
-		return ready{head: "case " + f.steady(sides[0]) + " <- " + f.packet(value) + ":"}
+		return ready{head: "case " + f.steady(sides[0]) + " <- " + f.packet(value) + ":", moves: value.Shape}
 	case *ast.ExprStmt:
 		channel := f.value(unparen(stmt.X).(*ast.UnaryExpr).X)
-		return ready{head: "case <-" + f.steady(channel) + ":"}
+		return ready{head: "case <-" + f.steady(channel) + ":", moves: channel.Shape.(Chan).Elem}
 	case *ast.AssignStmt:
 		channel := f.value(unparen(stmt.Rhs[0]).(*ast.UnaryExpr).X)
 		head, begin := f.clauseOf(stmt, channel)
-		return ready{head, begin}
+		return ready{head, begin, channel.Shape.(Chan).Elem}
 	}
 	return ready{head: "default:"}
 }
@@ -167,6 +171,10 @@ func (f *function) selects(it *ast.SelectStmt, label string) {
 	for at, clause := range it.Body.List {
 		comm := clause.(*ast.CommClause)
 		f.at = comm.Pos()
+		f.handed = ""
+		if moves := cases[at].moves; moves != nil {
+			f.moves(moves)
+		}
 		f.label(cases[at].head)
 		if cases[at].begin != nil {
 			f.attempt(comm, cases[at].begin)
@@ -208,6 +216,7 @@ func (f *function) clauseOf(stmt *ast.AssignStmt, channel Value) (string, func()
 		if !f.isShared(object, f.options.SharesLoops) {
 			delete(f.names, name)
 			own := f.name(known.Name)
+			f.showAs([]string{own}, shape.Elem)
 			f.bound[object] = &binding{shape: shape.Elem, names: []string{own}}
 			names = own + strings.TrimPrefix(names, name)
 			begin = func() {
@@ -226,9 +235,11 @@ func (f *function) receiveTwo(it *ast.AssignStmt, arrow *ast.UnaryExpr) {
 	if channel, ok := under(f.typeOf(arrow.X)).(*types.Chan); ok && names != nil {
 		if shape := f.shapeOf(channel.Elem(), it); len(shape.leaves()) == 1 {
 			from := f.value(arrow.X)
+			f.moves(shape)
 			var own []string
 			for at, object := range names {
 				known := &binding{shape: []Shape{shape, Truth{}}[at], names: []string{f.name(object.Name())}}
+				f.showAs(known.names, known.shape)
 				f.bound[object], own = known, append(own, known.names...)
 			}
 			f.emit(commas(own) + " := <-" + from.within(unary))

@@ -30,32 +30,23 @@ func (f *function) closure(it *ast.FuncLit) Value {
 	return found
 }
 
-// defers keeps a call for the end of the function. Its arguments are found now.
-func (f *function) defers(it *ast.DeferStmt) {
-	if f.depth > 1 {
-		f.refuse(it, "defer", "a defer within a block is not carried", "defer in the function's own block, or call it at each return")
+// methodValue is a method of the program with its receiver, if an expression is that.
+func (f *function) methodValue(e ast.Expr) (Value, bool) {
+	selector, ok := e.(*ast.SelectorExpr)
+	if !ok {
+		return Value{}, false
 	}
-	call := it.Call
-	if lit, ok := unparen(call.Fun).(*ast.FuncLit); ok && len(call.Args) == 0 {
-		if recovers(lit) {
-			f.refuse(it, "recover", "recover is not carried: a panic stops the program, and can be taken back", "leave it out")
-		}
-		fun := f.closure(lit)
-		f.deferred = append(f.deferred, func(f *function) { f.drop(f.apply(call, fun, nil, false)) })
-		f.carryDefer(it)
-		return
+	choice := f.src.Info.Selections[selector]
+	if choice == nil || choice.Kind() != types.MethodVal || f.declared[choice.Obj()] == nil {
+		return Value{}, false
 	}
-	held := *call
-	held.Args = nil
-	for _, e := range call.Args {
-		held.Args = append(held.Args, f.kept(e))
+	known := f.declared[choice.Obj()]
+	receiver := f.receiver(selector, known.sign.Recv().Type(), choice)
+	if receiver.Acts {
+		receiver = f.spill(receiver, "receiver")
 	}
-	f.deferred = append(f.deferred, func(f *function) { f.drop(f.call(&held)) })
-	f.carryDefer(it)
-}
-
-func (f *function) carryDefer(it *ast.DeferStmt) {
-	f.carry(it, "defer", "what is deferred is written at each return, the last first")
+	f.carry(e, "closure", "the method stands by itself as "+known.name+", and is given its receiver")
+	return Value{Shape: Func{Body: known, Receiver: receiver.Shape}, Code: receiver.Code, Binds: atom}, true
 }
 
 // drop writes calls whose results nobody takes.
@@ -65,39 +56,6 @@ func (f *function) drop(values []Value) {
 			f.emit(value.Code[0])
 		}
 	}
-}
-
-func recovers(lit *ast.FuncLit) bool {
-	found := false
-	ast.Inspect(lit, func(node ast.Node) bool {
-		if name, ok := node.(*ast.Ident); ok && name.Name == "recover" {
-			found = true
-		}
-		return true
-	})
-	return found
-}
-
-// kept is an argument that is found now and used later: a constant, a name that never changes, or a new variable.
-func (f *function) kept(e ast.Expr) ast.Expr {
-	if known := f.src.Info.Types[e]; known.Value != nil || known.IsNil() || known.IsType() {
-		return e
-	}
-	if name, ok := unparen(e).(*ast.Ident); ok {
-		if object := f.object(name); object != nil && !f.assigned[object] {
-			return e
-		}
-	}
-	if _, ok := unparen(e).(*ast.UnaryExpr); ok && toolOf(f.typeOf(e)) != "" {
-		return e
-	}
-	value := f.spill(f.value(e), "kept")
-	name := &ast.Ident{NamePos: e.Pos(), Name: "kept"}
-	object := types.NewVar(e.Pos(), f.src.Pkg, "kept", f.typeOf(e))
-	f.src.Info.Uses[name] = object
-	f.src.Info.Types[name] = types.TypeAndValue{Type: f.typeOf(e)}
-	f.bound[object] = &binding{shape: value.Shape, names: value.Code}
-	return name
 }
 
 // declareGlobals declares the variables of the package at the beginning of `main`: those without a value, and then the others in the

@@ -23,8 +23,9 @@ func (f *function) parts(node ast.Node, value Value, t types.Type, verb byte, de
 	case List:
 		return f.listParts(node, value, it, t, verb, depth)
 	case Grow:
-		if !it.IsQueue && (it.Elem.key() == "int" || it.Elem.key() == "bool") {
+		if it.Elem.key() == "int" || it.Elem.key() == "bool" {
 			f.change(node, "printing", "println sets its values apart by blanks")
+			value = f.plainGrown(value, node)
 			return []item{{value: &value}}
 		}
 	case Ref:

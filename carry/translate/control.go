@@ -3,7 +3,6 @@ package translate
 import (
 	"go/ast"
 	"go/token"
-	"go/types"
 	"strings"
 )
 
@@ -140,8 +139,9 @@ func (f *function) body(it *ast.BlockStmt, label string) {
 
 // ranges is a loop over a channel, an array or a slice.
 func (f *function) ranges(it *ast.RangeStmt, label string) {
-	if _, ok := under(f.typeOf(it.X)).(*types.Map); ok {
-		f.refuse(it, "maps", "maps are not carried", "use an array of a constant length")
+	if f.isMap(it.X) {
+		f.rangeMap(it, label)
+		return
 	}
 	if f.hasPlace(it.X) {
 		where := f.start(it.X)
@@ -157,9 +157,20 @@ func (f *function) ranges(it *ast.RangeStmt, label string) {
 			return
 		}
 	}
-	over := f.value(it.X)
+	f.rangeValue(it, label, f.value(it.X))
+}
+
+// rangeValue is a loop over what is found before it.
+func (f *function) rangeValue(it *ast.RangeStmt, label string, over Value) {
 	if channel, ok := over.Shape.(Chan); ok {
 		f.rangeChannel(it, label, channel, over)
+		return
+	}
+	if grow, ok := over.Shape.(Grow); ok {
+		if over.Acts {
+			over = f.spill(over, "slice")
+		}
+		f.rangeGrown(it, label, grow, place{shape: grow, code: over.Code, cells: make([]bool, len(over.Code))})
 		return
 	}
 	isRef := false
@@ -180,6 +191,7 @@ func (f *function) ranges(it *ast.RangeStmt, label string) {
 
 func (f *function) rangeChannel(it *ast.RangeStmt, label string, channel Chan, over Value) {
 	label = f.loopLabel(label)
+	f.moves(channel.Elem)
 	code := over.one()
 	name, ok := it.Key.(*ast.Ident)
 	if it.Key == nil || ok && name.Name == "_" {
@@ -189,6 +201,7 @@ func (f *function) rangeChannel(it *ast.RangeStmt, label string, channel Chan, o
 	}
 	if ok && it.Tok == token.DEFINE && len(channel.Elem.leaves()) == 1 && !f.isShared(f.src.Info.Defs[name], f.options.SharesLoops) {
 		own := f.name(name.Name)
+		f.showAs([]string{own}, channel.Elem)
 		f.bound[f.src.Info.Defs[name]] = &binding{shape: channel.Elem, names: []string{own}}
 		f.open("for " + own + " := range " + code + " {")
 		f.body(it.Body, label)

@@ -29,6 +29,9 @@ func (f *function) value(e ast.Expr) Value {
 	case *ast.CallExpr:
 		return f.called(it)
 	case *ast.SelectorExpr, *ast.IndexExpr, *ast.StarExpr:
+		if found, ok := f.methodValue(e); ok {
+			return found
+		}
 		return f.copied(f.read(f.place(e)), e)
 	case *ast.CompositeLit:
 		return f.literal(it)
@@ -37,7 +40,7 @@ func (f *function) value(e ast.Expr) Value {
 	case *ast.SliceExpr:
 		return f.slice(it)
 	case *ast.TypeAssertExpr:
-		f.refuse(e, "interfaces", "an assertion of a type is not carried", "use the type that stands behind it")
+		return f.assertion(it)
 	}
 	f.refuse(e, "expressions", "this expression is not carried", "")
 	return Value{}
@@ -90,12 +93,27 @@ func (f *function) fit(value Value, shape Shape, node ast.Node) Value {
 	if value.Shape.key() == shape.key() {
 		return value
 	}
+	if any, ok := shape.(AnyFunc); ok {
+		return f.inAnyFunc(value, any, node)
+	}
+	if union, ok := shape.(Union); ok {
+		return f.inUnion(value, union, node)
+	}
 	if grow, ok := shape.(Grow); ok {
 		return f.filled(value, grow, node)
 	}
 	if text, ok := shape.(Num); ok {
-		if own, ok := value.Shape.(Num); ok && (text.Text == own.Text || own.Text == Plain) {
+		own, ok := value.Shape.(Num)
+		if ok && (text.Text == own.Text || own.Text == Plain) {
 			return value
+		}
+		if ok && text.Text == String && own.Text == Error {
+			return f.errorText(value)
+		}
+		if text.Text == Error {
+			if speaker := f.errorMethod(value.Shape); speaker != nil {
+				return f.spokenError(value, speaker, node)
+			}
 		}
 	}
 	if own, ok := isTool(value.Shape); ok {
@@ -116,7 +134,7 @@ func (f *function) nothing(shape Shape, node ast.Node) Value {
 		if it.Text == Error {
 			return Value{Shape: shape, Code: []string{"0"}, Binds: atom}
 		}
-	case Chan, Handle:
+	case Chan, Handle, Map:
 		return f.nils(shape)
 	case Ref:
 		f.needsCheck = true
@@ -132,6 +150,8 @@ func (f *function) nothing(shape Shape, node ast.Node) Value {
 		}
 	case Grow:
 		return f.zero(shape)
+	case Union, AnyFunc:
+		return f.zero(it)
 	}
 	f.refuse(node, "pointers", "nil is not carried here", "")
 	return Value{}
@@ -164,6 +184,9 @@ func (f *function) zero(shape Shape) Value {
 		}
 	case Grow:
 		part := f.zero(it.room())
+		if it.IsCelled {
+			part.Code, part.Acts = f.celled(part), true
+		}
 		found.Code, found.Acts = append(it.empty("0"), part.Code...), part.Acts
 	default:
 		if _, ok := shape.(Ref); ok {
@@ -256,13 +279,16 @@ func (f *function) binary(it *ast.BinaryExpr) Value {
 	if it.Op == token.LAND || it.Op == token.LOR {
 		return f.shortened(it)
 	}
+	if isString(f.typeOf(it)) && it.Op == token.ADD {
+		return f.madeText(it)
+	}
 	sides := f.all([]ast.Expr{it.X, it.Y})
 	if it.Op == token.EQL || it.Op == token.NEQ {
 		return f.compared(it, sides[0], sides[1])
 	}
 	for _, side := range sides {
 		if text, ok := side.Shape.(Num); ok && text.Text == String {
-			f.refuse(it, "texts", "texts that are put together or put in order while the program runs are not carried", "print the parts one after another")
+			f.refuse(it, "texts", "texts that are put in order while the program runs are not carried", "compare numbers")
 		}
 	}
 	shape := sides[0].Shape
@@ -318,45 +344,4 @@ func (f *function) shortened(it *ast.BinaryExpr) Value {
 	f.emit(held + " = " + y.one())
 	f.close()
 	return single(Truth{}, held, false)
-}
-
-// compared is `==` or `!=`, of each leaf.
-func (f *function) compared(it *ast.BinaryExpr, x, y Value) Value {
-	if _, ok := x.Shape.(Nothing); ok {
-		x = f.fit(x, y.Shape, it)
-	} else {
-		y = f.fit(y, x.Shape, it)
-	}
-	codes := len(x.Code)
-	if ref, ok := x.Shape.(Ref); ok {
-		// Two pointers are equal where their first cells are.
-		for at, isCell := range ref.cells() {
-			if isCell {
-				x, y = x.leaf(at), y.leaf(at)
-				return f.joined(it.Op, Truth{}, x, y)
-			}
-		}
-		f.refuse(it, "pointers", "pointers to values that never change are not compared", "compare what they lead to")
-	}
-	if _, ok := isTool(x.Shape); ok {
-		return f.joined(it.Op, Truth{}, x.leaf(0), y.leaf(0))
-	}
-	if codes == 0 {
-		return single(Truth{}, map[token.Token]string{token.EQL: "true", token.NEQ: "false"}[it.Op], false)
-	}
-	between := map[token.Token]token.Token{token.EQL: token.LAND, token.NEQ: token.LOR}[it.Op]
-	found := f.joined(it.Op, Truth{}, x.leaf(0), y.leaf(0))
-	for at := 1; at < codes; at++ {
-		found = f.joined(between, Truth{}, found, f.joined(it.Op, Truth{}, x.leaf(at), y.leaf(at)))
-	}
-	return found
-}
-
-// leaf is one leaf as a value. An expression of which nothing is known but its text binds as its operators do.
-func (v Value) leaf(at int) Value {
-	binds := v.Binds
-	if len(v.Code) > 1 && strings.Contains(v.Code[at], " ") {
-		binds = 0
-	}
-	return Value{Shape: v.Shape, Code: v.Code[at : at+1], Binds: binds, Acts: v.Acts}
 }

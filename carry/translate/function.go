@@ -21,6 +21,8 @@ type piece struct {
 	text string
 	at   token.Pos
 	kind kind
+
+	moves string // what the values that go over a channel in it stand for
 }
 
 type kind int
@@ -45,11 +47,15 @@ type function struct {
 	outs     [][]string   // for each result but the first, the channels of its leaves
 	named    []*types.Var // named results
 	deferred []func(*function)
-	depth    int // of blocks
+	heads    []piece // declarations at its beginning
+	depth    int     // of blocks
 	breaks   []target
 	at       token.Pos // of the statement that is translated
 	loops    int       // that have no label in the source
-	heading  string
+
+	loopDefers int    // statements of `defer` within loops
+	handed     string // what the values stand for that the present statement hands on
+	heading    string
 }
 
 // A target is a statement that `break` or `continue` may name.
@@ -124,6 +130,7 @@ func (f *function) leafNames(base string, shape Shape) []string {
 	for _, leaf := range shape.leaves() {
 		names = append(names, f.name(join(base, leaf.Suffix)))
 	}
+	f.showAs(names, shape)
 	return names
 }
 
@@ -199,6 +206,8 @@ func (f *function) translate() {
 		f.attempt(f.node(), f.end)
 	}
 	f.put(closes, "}")
+	pieces := append(f.instance.pieces[:1:1], f.heads...)
+	f.instance.pieces = append(pieces, f.instance.pieces[1:]...)
 	f.dropLabels()
 }
 
@@ -312,7 +321,7 @@ func (f *function) refuse(node ast.Node, rule, what, advice string) {
 }
 
 func (f *function) put(kind kind, text string) {
-	f.instance.pieces = append(f.instance.pieces, piece{text, f.at, kind})
+	f.instance.pieces = append(f.instance.pieces, piece{text, f.at, kind, f.handed})
 }
 
 func (f *function) emit(text string) { f.put(plainPiece, text) }

@@ -51,6 +51,10 @@ func (p *program) helperText(kind, about string) string {
 		return p.elementText(about)
 	case "choose":
 		return chooseText(about)
+	case "error_text":
+		return p.errorTextHelper()
+	case "error_is":
+		return p.errorIsHelper()
 	case "fault":
 		return "SELF() {\n\tvar never chan int\n\tclose(never)\n}"
 	}
@@ -122,11 +126,32 @@ var toolTexts = map[string]string{
 	}
 	return index
 }`,
+	"room": `SELF(length int) int {
+	if length < 0 || length > 16 {
+		<<fault:slice_is_too_long>>()
+	}
+	return length
+}`,
 	"number": `SELF(truth bool) int {
 	if truth {
 		return 1
 	}
 	return 0
+}`,
+	"folded": `SELF(number, most int) int {
+	if number < -most/2 || number >= most/2 {
+		<<fault:text_is_too_long>>()
+	}
+	if number < 0 {
+		return -2*number - 1
+	}
+	return 2 * number
+}`,
+	"unfolded": `SELF(folded int) int {
+	if folded%2 == 1 {
+		return -(folded + 1) / 2
+	}
+	return folded / 2
 }`,
 	"try_lock": `SELF(lock chan struct{}) bool {
 	select {

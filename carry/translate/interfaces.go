@@ -8,6 +8,14 @@ import (
 
 // onlyType is the type that stands behind an interface of the program, where one type alone has its methods; else nil.
 func (f *facts) onlyType(t types.Type) types.Type {
+	if found := f.typesBehind(t); len(found) == 1 {
+		return found[0]
+	}
+	return nil
+}
+
+// typesBehind are the types that have the methods of an interface of the program.
+func (f *facts) typesBehind(t types.Type) []types.Type {
 	named, ok := t.(*types.Named)
 	if !ok || named.Obj().Pkg() != f.src.Pkg || named.TypeParams().Len() > 0 {
 		return nil
@@ -26,10 +34,7 @@ func (f *facts) onlyType(t types.Type) types.Type {
 			found = append(found, it)
 		}
 	}
-	if len(found) != 1 {
-		return nil
-	}
-	return found[0]
+	return found
 }
 
 // implementing is a type, or the one of pointers to it, that has the methods of an interface.

@@ -26,6 +26,8 @@ func (f *function) elements(it *ast.CompositeLit, t types.Type) Value {
 			return f.recordLiteral(it, record, kind)
 		}
 		return Value{Shape: shape, Binds: atom}
+	case *types.Map:
+		return f.mapLiteral(it, f.shapeOf(t, it).(Map))
 	case *types.Array:
 		return f.listLiteral(it, int(kind.Len()), kind.Elem(), false)
 	case *types.Slice:
@@ -47,6 +49,7 @@ func (f *function) recordLiteral(it *ast.CompositeLit, record Record, t *types.S
 			}
 			e = pair.Value
 		}
+		f.refuseTwoOwners(t.Field(at), e)
 		given, places = append(given, e), append(places, at)
 	}
 	values := f.all(given)
@@ -63,7 +66,6 @@ func (f *function) recordLiteral(it *ast.CompositeLit, record Record, t *types.S
 		}
 		found.Code, found.Acts = append(found.Code, part.Code...), found.Acts || part.Acts
 	}
-	_ = t
 	return found
 }
 
@@ -84,7 +86,11 @@ func (f *function) listLiteral(it *ast.CompositeLit, length int, elem types.Type
 	if len(values) > 0 {
 		shape = values[0].Shape
 	}
-	if _, ok := shape.(Func); !ok || shape == nil {
+	_, isFunc := shape.(Func)
+	for _, value := range values {
+		isFunc = isFunc && value.Shape.key() == shape.key()
+	}
+	if !isFunc {
 		shape = f.shapeOf(elem, it)
 	}
 	found := Value{Shape: List{length, shape}, Binds: atom}

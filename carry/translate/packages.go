@@ -44,6 +44,7 @@ func init() {
 		"fmt.Printf": formats, "log.Printf": logsFormat, "log.SetFlags": nothing, "log.SetPrefix": noPrefix,
 		"log.Fatal": fatal, "log.Fatalln": fatal, "log.Fatalf": fatalFormat,
 		"fmt.Errorf": newError, "errors.New": newError, "errors.Is": isOfError,
+		"fmt.Sprintf": makesText, "fmt.Sprint": makesText, "strconv.Itoa": makesText,
 		"time.Sleep": sleeps, "time.After": after, "time.Tick": tick, "time.NewTimer": newTimer, "time.NewTicker": newTicker,
 		"time.AfterFunc": afterFunc, "time.Now": now, "time.Since": noTime,
 		"fmt.Fprintln": toFile(prints), "fmt.Fprint": toFile(printsOpen), "fmt.Fprintf": toFile(formats),
@@ -85,7 +86,13 @@ func prints(f *function, it *ast.CallExpr) []Value {
 }
 
 func printsOpen(f *function, it *ast.CallExpr) []Value {
-	printed := lines(f.items(it.Args, ""))
+	groups := f.items(it.Args, "")
+	for at, group := range groups {
+		if len(group) > 1 {
+			groups[at], _ = spaced(group)
+		}
+	}
+	printed := lines(groups)
 	if last := len(printed) - 1; len(printed[last]) == 0 && last > 0 {
 		printed = printed[:last]
 		f.change(it, "printing", "println sets its values apart by blanks")
@@ -100,9 +107,7 @@ func printsOpen(f *function, it *ast.CallExpr) []Value {
 
 func logs(f *function, it *ast.CallExpr) []Value {
 	f.change(it, "printing", "what log writes is a line of the console, without the time")
-	for _, line := range lines(f.items(it.Args, "")) {
-		f.line(it, line)
-	}
+	f.writeLines(it, f.items(it.Args, ""))
 	return nil
 }
 
@@ -155,16 +160,20 @@ func exits(f *function, it *ast.CallExpr) []Value {
 	return nil
 }
 
-// newError is an error with a text that is known. Each place has an error of its own.
+// newError is an error. Each place has an error of its own; one whose text is made is told by its values, too.
 func newError(f *function, it *ast.CallExpr) []Value {
 	known := f.src.Info.Types[it.Args[0]]
 	if known.Value == nil || len(it.Args) > 1 {
-		f.refuse(it, "texts", "an error whose text is made while the program runs is not carried", "use an error with a constant text")
+		slots := f.slots(it.Args[0], 'v')
+		if len(it.Args) > 1 {
+			slots = f.slotsOfFormat(it, it.Args)
+		}
+		return []Value{f.madeOf(it, Error, f.filledSlots([][]slot{slots})[0])}
 	}
 	f.carry(it, "errors", "an error is a number, and is printed as its text")
 	at, ok := f.errorPlaces[it]
 	if !ok {
-		at = f.errors.fresh(constant.StringVal(known.Value))
+		at = f.errors.fresh(f.plainText(it, constant.StringVal(known.Value)))
 		f.errorPlaces[it] = at
 	}
 	return []Value{{Shape: Num{Error}, Code: []string{itoa(at)}, Binds: atom}}
@@ -172,6 +181,12 @@ func newError(f *function, it *ast.CallExpr) []Value {
 
 func isOfError(f *function, it *ast.CallExpr) []Value {
 	sides := f.all(it.Args)
+	if f.wrapsErrors() {
+		for at := range sides {
+			sides[at] = f.fit(sides[at], Num{Error}, it)
+		}
+		return []Value{single(Truth{}, f.helper("error_is")+"("+sides[0].one()+", "+sides[1].one()+")", true)}
+	}
 	return []Value{f.compared(&ast.BinaryExpr{X: it.Args[0], Op: token.EQL, OpPos: it.Pos(), Y: it.Args[1]}, sides[0], sides[1])}
 }
 

@@ -8,19 +8,20 @@ import (
 // panics calls a function that stops the program, and is named after the text.
 func (f *function) panics(it *ast.CallExpr) {
 	text, values := "panic", it.Args
-	if made := f.madeText(it.Args[0]); made != nil {
+	if made := f.textCall(it.Args[0]); made != nil {
 		values = made.Args
 	}
 	if value := f.src.Info.Types[values[0]]; value.Value != nil {
 		text, values = strings.Trim(value.Value.ExactString(), `"`), values[1:]
 	}
-	f.all(values)
-	f.change(it, "panic", "a panic is a fault: a call of a function named after it closes a nil channel; what is deferred is not run")
+	f.drop(f.all(values))
+	f.change(it, "panic", "a panic is a fault: a call of a function named after it closes a nil channel; of what is deferred, that of this function alone is run")
+	f.runDeferred()
 	f.emit(f.fault(strings.TrimSuffix("panic_"+words(text), "_")) + "()")
 }
 
-// madeText is the call that an argument is, if it makes a text or an error of values by a constant format.
-func (f *function) madeText(e ast.Expr) *ast.CallExpr {
+// textCall is the call that an argument is, if it makes a text or an error of values by a constant format.
+func (f *function) textCall(e ast.Expr) *ast.CallExpr {
 	call, ok := unparen(e).(*ast.CallExpr)
 	if !ok {
 		return nil

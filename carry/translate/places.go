@@ -12,6 +12,7 @@ type place struct {
 	shape Shape
 	code  []string
 	cells []bool
+	entry *entry // of an element of a map
 	first string // of a slice that is also taken from: the index of its first element, around which the others lie
 }
 
@@ -103,7 +104,19 @@ func (f *function) start(e ast.Expr) place {
 	if isPointer(f.typeOf(e)) && toolOf(f.typeOf(e)) == "" {
 		return f.pointee(f.value(e))
 	}
-	return f.place(e)
+	return f.settled(f.place(e))
+}
+
+// settled is a place that is no element of a map: of one it is a copy.
+func (f *function) settled(where place) place {
+	if where.entry == nil {
+		return where
+	}
+	value := f.read(where)
+	if value.Acts {
+		value = f.spill(value, "value")
+	}
+	return place{shape: value.Shape, code: value.Code, cells: make([]bool, len(value.Code))}
 }
 
 func fieldType(t types.Type, at int) types.Type {
@@ -145,8 +158,8 @@ func (f *function) toolField(where place, tool Tool, node ast.Node) place {
 
 // element is an element of an array or a slice. An index that is not known is looked up: what is found is a copy, or a cell.
 func (f *function) element(it *ast.IndexExpr) place {
-	if _, ok := under(f.typeOf(it.X)).(*types.Map); ok {
-		f.refuse(it, "maps", "maps are not carried", "use variables, an array of a constant length, or a goroutine that answers")
+	if f.isMap(it.X) {
+		return f.entryOf(it)
 	}
 	where := f.start(it.X)
 	if _, ok := where.shape.(Ref); ok {
@@ -201,10 +214,14 @@ func (f *function) lookedUp(list List, where place, index Value, width int) plac
 
 // read looks at what lies in a place.
 func (f *function) read(where place) Value {
+	if where.entry != nil {
+		return f.readEntry(where)
+	}
 	found := Value{Shape: where.shape, Binds: atom}
 	for at, leaf := range where.shape.leaves() {
 		code := where.code[at]
 		if where.cells[at] {
+			f.moves(where.shape)
 			code, found.Acts = f.load(leaf.Type)+"("+code+")", true
 		} else if strings.Contains(code, "(") {
 			found.Acts = true
@@ -234,8 +251,13 @@ func (f *function) storeAll(places []place, values []Value, node ast.Node) {
 			continue
 		}
 		value := f.fit(values[n], where.shape, node)
+		if where.entry != nil {
+			f.storeEntry(where, value, node, len(places) > 1)
+			return
+		}
 		for at, leaf := range where.shape.leaves() {
 			if where.cells[at] {
+				f.moves(where.shape)
 				cells = append(cells, cell{where.code[at], value.Code[at], leaf.Type})
 			} else {
 				if strings.Contains(where.code[at], "(") {
@@ -245,11 +267,9 @@ func (f *function) storeAll(places []place, values []Value, node ast.Node) {
 			}
 		}
 	}
-	if len(cells) > 0 && len(cells)+len(to) > 1 {
+	if len(cells)+len(to) > 1 {
 		for at := range cells {
-			held := f.temporary("value")
-			f.emit(held + " := " + cells[at].code)
-			cells[at].code = held
+			cells[at].code = f.spill(single(Num{}, cells[at].code, true), "value").one()
 		}
 	}
 	if len(to) > 0 {
@@ -273,7 +293,7 @@ func (f *function) bind(object types.Object, value Value) {
 		names := f.leafNames(object.Name(), value.Shape)
 		f.bound[object] = &binding{shape: value.Shape, names: names}
 		if len(names) > 0 {
-			f.emit(commas(names) + " := " + commas(value.Code))
+			f.emit(commas(names) + " := " + commas(f.typedCodes(value)))
 		}
 		return
 	}
@@ -325,8 +345,20 @@ func (f *function) spill(value Value, base string) Value {
 	for at := range names {
 		names[at] = f.temporary(base)
 	}
-	f.emit(commas(names) + " := " + commas(value.Code))
+	f.showAs(names, value.Shape)
+	f.emit(commas(names) + " := " + commas(f.typedCodes(value)))
 	return Value{Shape: value.Shape, Code: names, Binds: atom}
+}
+
+// typedCodes are the expressions of a value where a definition takes its types from them.
+func (f *function) typedCodes(value Value) []string {
+	found := append([]string(nil), value.Code...)
+	for at, leaf := range value.Shape.leaves() {
+		if at < len(found) && found[at] == "nil" {
+			found[at] = f.typedZero(leaf.Type)
+		}
+	}
+	return found
 }
 
 // isDefine says whether a name is new in a definition.

@@ -6,92 +6,157 @@ import (
 	"strings"
 )
 
-// printText is a function that prints a line with texts that are found by their numbers, and slices by their lengths.
+// mostCases is how many different lines a function that prints may write.
+const mostCases = 3000
+
+// A shown part is one of a line that is still to be written: the expressions of its leaves, or a text.
+type shown struct {
+	item
+	codes []string
+	depth int // how many texts that are made it lies in
+}
+
+// A linePrinter writes a function that prints a line with texts that are found by their numbers, and slices by their lengths.
+type linePrinter struct {
+	*program
+	text  strings.Builder
+	cases int
+}
+
 func (p *program) printText(it print) string {
+	w := linePrinter{program: p}
 	var params []string
-	var dynamic []int
+	var parts []shown
 	for at, part := range it.items {
-		if part.value == nil {
-			continue
+		one := shown{item: part}
+		if part.value != nil {
+			leaves := part.value.Shape.leaves()
+			for n, leaf := range leaves {
+				name := fmt.Sprintf("part_%d", at)
+				if len(leaves) > 1 {
+					name += "_" + itoa(n)
+				}
+				one.codes, params = append(one.codes, name), append(params, name+" "+leaf.Type)
+			}
 		}
-		for n, leaf := range part.value.Shape.leaves() {
-			params = append(params, partName(part, at, n)+" "+leaf.Type)
-		}
-		if isText(part.value.Shape) || isGrow(part.value.Shape) {
-			dynamic = append(dynamic, at)
-		}
+		parts = append(parts, one)
 	}
-	var text strings.Builder
-	fmt.Fprintf(&text, "func %s(%s) {\n", it.name, strings.Join(params, ", "))
-	p.printCases(&text, it, dynamic, map[int]string{}, "\t")
-	text.WriteString("}")
-	return text.String()
+	fmt.Fprintf(&w.text, "func %s(%s) {\n", it.name, strings.Join(params, ", "))
+	w.line(parts, nil, "\t")
+	w.text.WriteString("}")
+	if w.cases > mostCases {
+		p.leave(it.node, "texts", "a line with so many texts that it may be is not carried", "print its texts on lines of their own")
+	}
+	return w.text.String()
 }
 
-// partName is the parameter for a leaf of a part of a line.
-func partName(part item, at, leaf int) string {
-	if len(part.value.Shape.leaves()) == 1 {
-		return fmt.Sprintf("part_%d", at)
-	}
-	return fmt.Sprintf("part_%d_%d", at, leaf)
-}
-
-// printCases writes a case for each text that the first of some parts may be.
-func (p *program) printCases(text *strings.Builder, it print, dynamic []int, known map[int]string, indent string) {
-	if len(dynamic) == 0 {
-		fmt.Fprintf(text, "%sprintln(%s)\n", indent, strings.Join(p.printParts(it, known), ", "))
-		return
-	}
-	part := it.items[dynamic[0]]
-	for number, code := range p.casesOf(part, dynamic[0]) {
-		word := "} else if"
-		if number == 0 {
-			word = "if"
-		}
-		known[dynamic[0]] = code
-		fmt.Fprintf(text, "%s%s %s == %d {\n", indent, word, partName(part, dynamic[0], 0), number)
-		p.printCases(text, it, dynamic[1:], known, indent+"\t")
-	}
-	fmt.Fprintf(text, "%s}\n", indent)
-}
-
-// casesOf are what a part may be printed as, by its number or by its length.
-func (p *program) casesOf(part item, at int) []string {
-	var found []string
-	if isGrow(part.value.Shape) {
-		elements := ""
-		for n := 0; n <= mostGrown; n++ {
-			found = append(found, `"["`+elements+`, "]"`)
-			elements += ", " + partName(part, at, n+1)
-		}
-		return found
-	}
-	list := p.texts.list
-	if part.value.Shape.key() == "error" {
-		list = p.errors.list
-	}
-	for _, one := range list {
-		if part.isQuoted {
-			one = strconv.Quote(one)
-		}
-		code, _ := literal(one)
-		found = append(found, code)
-	}
-	return found
-}
-
-func (p *program) printParts(it print, known map[int]string) []string {
-	var parts []string
-	for at, part := range it.items {
+// line writes the cases of a line from its first part on of which they are not chosen.
+func (w *linePrinter) line(parts []shown, done []string, indent string) {
+	for ; len(parts) > 0 && w.cases <= mostCases; parts = parts[1:] {
+		part := parts[0]
 		switch {
 		case part.value == nil:
 			code, _ := literal(part.text)
-			parts = append(parts, code)
-		case known[at] != "":
-			parts = append(parts, known[at])
+			done = append(done[:len(done):len(done)], code)
+		case isText(part.value.Shape):
+			w.texts(part, parts[1:], done, indent)
+			return
+		case isGrow(part.value.Shape):
+			w.lengths(part, parts[1:], done, indent)
+			return
 		default:
-			parts = append(parts, partName(part, at, 0))
+			done = append(done[:len(done):len(done)], part.codes...)
 		}
 	}
-	return parts
+	w.cases++
+	fmt.Fprintf(&w.text, "%sprintln(%s)\n", indent, strings.Join(done, ", "))
+}
+
+// lengths writes a case for each length of a slice.
+func (w *linePrinter) lengths(part shown, rest []shown, done []string, indent string) {
+	elements := []string{`"["`}
+	for n := 0; n <= mostGrown; n++ {
+		w.head(n, fmt.Sprintf("%s == %d", part.codes[0], n), indent)
+		w.line(rest, append(done[:len(done):len(done)], append(elements[:len(elements):len(elements)], `"]"`)...), indent+"\t")
+		if n < mostGrown {
+			elements = append(elements, part.codes[n+1])
+		}
+	}
+	fmt.Fprintf(&w.text, "%s}\n", indent)
+}
+
+func (w *linePrinter) head(number int, condition, indent string) {
+	word := "} else if"
+	if number == 0 {
+		word = "if"
+	}
+	fmt.Fprintf(&w.text, "%s%s %s {\n", indent, word, condition)
+}
+
+// How deeply texts that are made may lie in others that are printed.
+const mostMade = 3
+
+// texts writes a case for each text that a part may be.
+func (w *linePrinter) texts(part shown, rest []shown, done []string, indent string) {
+	code, kind := part.codes[0], part.value.Shape.(Num).Text
+	list := w.program.texts.list
+	if kind == Error {
+		list = w.errors.list
+	}
+	for number, one := range list {
+		if w.cases > mostCases {
+			return
+		}
+		if part.isQuoted {
+			one = strconv.Quote(one)
+		}
+		text, _ := literal(one)
+		w.head(number, fmt.Sprintf("%s == %d", code, number), indent)
+		w.line(rest, append(done[:len(done):len(done)], text), indent+"\t")
+	}
+	isCut := false
+	for at, it := range w.forms {
+		if it.kind != kind || w.cases > mostCases {
+			continue
+		}
+		if part.depth == mostMade {
+			isCut = true
+			continue
+		}
+		w.head(1, fmt.Sprintf("-%s%%%d == %d", code, formRoom, at+1), indent)
+		w.line(append(w.partsOf(it, part, indent+"\t"), rest...), done, indent+"\t")
+	}
+	if isCut {
+		fmt.Fprintf(&w.text, "%s} else {\n%s\t%s()\n", indent, indent, w.fault("text_is_too_long"))
+	}
+	fmt.Fprintf(&w.text, "%s}\n", indent)
+}
+
+// partsOf are the parts of a text of a form. Its values are put into variables.
+func (w *linePrinter) partsOf(it *form, part shown, indent string) []shown {
+	parts, _ := spaced(it.parts)
+	var found []shown
+	quote := shown{item: item{text: `"`}}
+	if part.isQuoted {
+		found = append(found, quote)
+	}
+	next := 0
+	for _, one := range parts {
+		lone := shown{item: one, depth: part.depth + 1}
+		if one.value != nil {
+			name := fmt.Sprintf("%s_%d", part.codes[0], next)
+			code := w.valueOf(it, part.codes[0], next)
+			if _, ok := one.value.Shape.(Truth); ok {
+				code += " == 1"
+			}
+			fmt.Fprintf(&w.text, "%s%s := %s\n", indent, name, code)
+			lone.codes = []string{name}
+			next++
+		}
+		found = append(found, lone)
+	}
+	if part.isQuoted {
+		found = append(found, quote)
+	}
+	return found
 }

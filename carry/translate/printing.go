@@ -14,68 +14,69 @@ type item struct {
 	text     string
 	value    *Value
 	isQuoted bool // whether a text stands in quotes, as %q writes it
+	wraps    bool // whether an error is wrapped, as %w says
 }
 
 // A print is a line with parts that are not known before: a function of its own finds texts by their numbers, and slices by their lengths.
 type print struct {
 	name  string
 	items []item
+	node  ast.Node
 }
 
 // print writes the values of Println: with a blank between any two.
 func (f *function) print(it *ast.CallExpr, args []ast.Expr) {
 	if len(args) == 1 {
-		if value := f.sprintf(args[0]); value != nil {
-			f.format(it, value.Args)
+		if call, ok := unparen(args[0]).(*ast.CallExpr); ok && f.nameOfPackageCall(call) == "fmt.Sprintf" {
+			f.format(it, call.Args)
 			return
 		}
 	}
 	f.carry(it, "printing", "a line of println, with its values")
-	for _, line := range lines(f.items(args, "")) {
+	f.writeLines(it, f.items(args, ""))
+}
+
+// writeLines writes groups of parts, between any two of which there is a blank.
+func (f *function) writeLines(it *ast.CallExpr, groups [][]item) {
+	for at, group := range groups {
+		if len(group) > 1 {
+			groups[at] = f.spacedOrTold(it, group)
+		}
+	}
+	for _, line := range lines(groups) {
 		f.line(it, line)
 	}
 }
 
-// sprintf is the call of fmt.Sprintf that an argument is, if it is one.
-func (f *function) sprintf(e ast.Expr) *ast.CallExpr {
-	call, ok := unparen(e).(*ast.CallExpr)
-	if !ok {
-		return nil
+func (f *function) spacedOrTold(node ast.Node, group []item) []item {
+	found, isExact := spaced(group)
+	if !isExact {
+		f.change(node, "printing", "println sets its values apart by blanks")
 	}
-	selector, ok := call.Fun.(*ast.SelectorExpr)
-	if !ok || selector.Sel.Name != "Sprintf" || f.src.Info.Uses[selector.Sel] == nil || f.src.Info.Uses[selector.Sel].Pkg().Path() != "fmt" {
-		return nil
-	}
-	return call
+	return found
 }
 
 // items are the parts that values are printed as, a list for each. The verbs are those of a format, one for each value; without a
 // format all are as by %v.
 func (f *function) items(args []ast.Expr, verbs string) [][]item {
-	found := make([][]item, len(args))
-	var dynamic []ast.Expr
-	var places []int
+	var groups [][]slot
 	for at, e := range args {
-		verb := verbAt(verbs, at)
-		known, speaker := f.src.Info.Types[e], f.speakerOf(e, verb)
-		if known.Value != nil && known.Value.Kind() == constant.String && speaker == nil {
-			found[at] = []item{{text: constant.StringVal(known.Value)}}
-			if verb == 'q' {
-				found[at][0].text = strconv.Quote(found[at][0].text)
-			}
-			continue
-		}
-		places = append(places, at)
-		dynamic = append(dynamic, f.speaking(e, speaker))
+		groups = append(groups, f.slots(e, verbAt(verbs, at)))
 	}
-	values := f.arguments(dynamic)
-	if len(values) != len(dynamic) {
-		return f.itemsOfAll(dynamic[0], values)
+	return f.filledSlots(groups)
+}
+
+func isTextConstant(known types.TypeAndValue) bool {
+	return known.Value != nil && known.Value.Kind() == constant.String
+}
+
+func textOf(known types.TypeAndValue) string { return constant.StringVal(known.Value) }
+
+func quotedBy(verb byte, text string) string {
+	if verb == 'q' {
+		return strconv.Quote(text)
 	}
-	for at, value := range values {
-		found[places[at]] = f.itemsOf(args[places[at]], value, verbAt(verbs, places[at]))
-	}
-	return found
+	return text
 }
 
 func verbAt(verbs string, at int) byte {
@@ -97,8 +98,11 @@ func (f *function) itemsOfAll(call ast.Expr, values []Value) [][]item {
 
 func (f *function) itemsOf(e ast.Expr, value Value, verb byte) []item {
 	t := f.typeOf(e)
+	if verb == 'f' && !f.isSeconds(e) {
+		f.refuse(e, "printing", "this verb of a format is not carried", "use %d, %v, %s, %q or %t")
+	}
 	if text, ok := value.Shape.(Num); ok && text.Text != Plain {
-		return []item{{value: &value, isQuoted: verb == 'q'}}
+		return []item{{value: &value, isQuoted: verb == 'q', wraps: verb == 'w'}}
 	}
 	if fullName(t) == "time.Duration" {
 		if known := f.src.Info.Types[e].Value; known != nil {
@@ -157,7 +161,7 @@ func (f *function) line(node ast.Node, items []item) {
 	}
 	f.carry(node, "texts", "a text is a number, and is printed as its text")
 	name := f.program.name("print_line")
-	f.prints = append(f.prints, print{name, items})
+	f.prints = append(f.prints, print{name, items, node})
 	f.emit(name + "(" + strings.Join(given, ", ") + ")")
 }
 
@@ -196,29 +200,62 @@ func literal(text string) (string, bool) {
 
 // format writes the lines of Printf.
 func (f *function) format(it *ast.CallExpr, args []ast.Expr) {
-	known := f.src.Info.Types[args[0]]
-	if known.Value == nil {
-		f.refuse(it, "printing", "a format that is not constant is not carried", "write the format where it is used")
+	parts := f.filledSlots([][]slot{f.slotsOfFormat(it, args)})
+	text := textOf(f.src.Info.Types[args[0]])
+	whole := together(parts[0])
+	isExact := !hasWidths(text)
+	if endsLine(whole) {
+		last := &whole[len(whole)-1]
+		last.text = strings.TrimSuffix(last.text, "\n")
+	} else {
+		isExact = false
 	}
-	text := constant.StringVal(known.Value)
-	f.checkVerbs(it, text)
-	printed, exact := f.formatted(it, text, f.items(args[1:], verbsOf(text)))
-	if exact {
+	var printed [][]item
+	for _, line := range lines([][]item{whole}) {
+		line, fits := spaced(line)
+		printed, isExact = append(printed, line), isExact && fits
+	}
+	if isExact {
 		f.carry(it, "printing", "a line of println, with its values")
 	} else {
 		f.change(it, "printing", "println sets its values apart by blanks, and each line by itself")
 	}
 	for _, line := range printed {
-		for _, one := range lines([][]item{line}) {
-			f.line(it, one)
+		f.line(it, line)
+	}
+}
+
+func endsLine(parts []item) bool {
+	return len(parts) > 0 && parts[len(parts)-1].value == nil && strings.HasSuffix(parts[len(parts)-1].text, "\n")
+}
+
+// constantFormat is a format that is known, and has only verbs that are carried.
+func (f *function) constantFormat(node ast.Node, e ast.Expr) string {
+	known := f.src.Info.Types[e]
+	if known.Value == nil {
+		f.refuse(node, "printing", "a format that is not constant is not carried", "write the format where it is used")
+	}
+	f.checkVerbs(node, textOf(known))
+	return textOf(known)
+}
+
+// hasWidths says whether a verb of a format has more than its letter.
+func hasWidths(format string) bool {
+	for at := 0; at < len(format); at++ {
+		if format[at] == '%' {
+			if rest := strings.TrimLeft(format[at+1:], flags); len(rest) < len(format)-at-1 {
+				return true
+			}
+			at++
 		}
 	}
+	return false
 }
 
 // checkVerbs refuses verbs that are not carried, whatever values go with them.
 func (f *function) checkVerbs(node ast.Node, format string) {
 	for _, verb := range verbsOf(format) {
-		if !strings.ContainsRune("dvstqw+", verb) {
+		if !strings.ContainsRune("dvstqw+f", verb) {
 			f.refuse(node, "printing", "this verb of a format is not carried", "use %d, %v, %s, %q or %t")
 		}
 	}
@@ -247,22 +284,6 @@ func verbsOf(format string) string {
 // What may stand between a percent sign and its verb.
 const flags = "0123456789-+# ."
 
-// formatted are the lines that a format gives, and whether println writes them as Printf does.
-func (f *function) formatted(node ast.Node, format string, values [][]item) ([][]item, bool) {
-	exact := strings.HasSuffix(format, "\n")
-	var found [][]item
-	next := 0
-	for _, text := range strings.Split(strings.TrimSuffix(format, "\n"), "\n") {
-		line, isExact := f.formattedLine(node, text, values, &next)
-		exact = exact && isExact
-		found = append(found, line)
-	}
-	if next != len(values) {
-		f.refuse(node, "printing", "the format does not fit the values", "")
-	}
-	return found, exact
-}
-
 // widthOf is how far the letter of a verb stands behind its percent sign.
 func (f *function) widthOf(node ast.Node, text string) int {
 	verb := strings.TrimLeft(text[1:], flags)
@@ -272,45 +293,32 @@ func (f *function) widthOf(node ast.Node, text string) int {
 	return len(text) - len(verb)
 }
 
-func (f *function) formattedLine(node ast.Node, text string, values [][]item, next *int) ([]item, bool) {
-	var line []item
-	var open strings.Builder
-	exact, isAfterValue := true, false
-	flush := func(isBeforeValue bool) {
-		part := open.String()
-		open.Reset()
+// spaced are the parts of a line as println writes them, with a blank between any two, and whether that is what they are.
+func spaced(line []item) ([]item, bool) {
+	if len(line) > 1 {
+		line = together(line)
+	}
+	var found []item
+	isExact := true
+	for at, part := range line {
+		isAfterValue, isBeforeValue := at > 0 && line[at-1].value != nil, at+1 < len(line) && line[at+1].value != nil
+		if part.value != nil {
+			isExact = isExact && !isAfterValue
+			found = append(found, part)
+			continue
+		}
+		isOne := isAfterValue && isBeforeValue && part.text == " "
 		if isAfterValue {
-			exact = exact && (strings.HasPrefix(part, " ") || part == "" && !isBeforeValue)
-			part = strings.TrimPrefix(part, " ")
+			isExact = isExact && strings.HasPrefix(part.text, " ")
+			part.text = strings.TrimPrefix(part.text, " ")
 		}
-		if isBeforeValue && (len(line) > 0 || part != "") && !(isAfterValue && part == "" && exact) {
-			exact = exact && strings.HasSuffix(part, " ")
-			part = strings.TrimSuffix(part, " ")
+		if isBeforeValue && !isOne {
+			isExact = isExact && strings.HasSuffix(part.text, " ")
+			part.text = strings.TrimSuffix(part.text, " ")
 		}
-		if part != "" {
-			line = append(line, item{text: part})
+		if part.text != "" || len(line) == 1 {
+			found = append(found, part)
 		}
 	}
-	for at := 0; at < len(text); at++ {
-		if text[at] != '%' {
-			open.WriteByte(text[at])
-			continue
-		}
-		width := f.widthOf(node, text[at:])
-		exact, at = exact && width == 1, at+width
-		if text[at] == '%' {
-			open.WriteByte('%')
-			continue
-		}
-		if *next >= len(values) {
-			f.refuse(node, "printing", "the format does not fit the values", "")
-		}
-		flush(true)
-		line = append(line, values[*next]...)
-		exact = exact && len(values[*next]) == 1
-		isAfterValue = true
-		*next++
-	}
-	flush(false)
-	return line, exact
+	return found, isExact
 }

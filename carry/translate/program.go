@@ -27,6 +27,9 @@ type Result struct {
 	Names  map[string]string // functions of the carried program, by what they were
 	Texts  []string          // the texts that numbers stand for
 	Errors []string          // the texts of errors that numbers stand for
+
+	Forms     []FormShown                  // of texts that are made
+	Variables map[string]map[string]string // what a variable of a function stands for, where that is a text or an error
 }
 
 // A program is translated from `main` on.
@@ -44,6 +47,11 @@ type program struct {
 	texts       table
 	errors      table
 	prints      []print
+	forms       []*form                      // of texts that are made while the program runs
+	comparisons []ast.Node                   // of texts
+	layouts     map[string]*layout           // of function values that are not known where they are called, by their types
+	isRelaid    bool                         // whether a layout got one more function
+	shown       map[string]map[string]string // by functions and variables, whether their numbers stand for a text or an error
 	globals     map[types.Object]*binding
 	spoken      map[*ast.CallExpr]*body // calls of methods that say what is printed
 	done        map[*body]bool          // functions that were translated
@@ -83,12 +91,28 @@ func (t *table) fresh(text string) int {
 var reserved = strings.Fields("int bool true false nil len cap make close println init break case chan const continue default defer else " +
 	"fallthrough for func go goto if import interface map package range return select struct switch type var")
 
+// mostPasses is how often a program is translated, until all functions are found that a function value may be.
+const mostPasses = 8
+
 // Program carries a program over. What stands against it is in the notes; then the result has no text.
 func Program(src *source.Source, options Options, told *notes.List) *Result {
+	known, layouts, before := factsOf(src), map[string]*layout{}, *told
+	for pass := 0; pass < mostPasses; pass++ {
+		*told = before.Copy()
+		if found, isWhole := once(known, layouts, options, told); isWhole {
+			return found
+		}
+	}
+	told.Add(token.Position{Line: 1, Column: 1}, notes.Left, "functions", "function values that hold one another are not carried", "call the functions by their names")
+	return &Result{}
+}
+
+// once translates a program, and says whether all functions were known before that a function value may be.
+func once(known *facts, layouts map[string]*layout, options Options, told *notes.List) (*Result, bool) {
 	p := &program{
-		facts: factsOf(src), options: options, told: told, names: map[string]bool{}, locals: map[string]bool{}, instances: map[string]*instance{},
+		facts: known, layouts: layouts, options: options, told: told, names: map[string]bool{}, locals: map[string]bool{}, instances: map[string]*instance{},
 		helpers: map[string]string{}, errorPlaces: map[ast.Node]int{}, globals: map[types.Object]*binding{}, bad: map[types.Object]bool{}, records: map[string]bool{},
-		spoken: map[*ast.CallExpr]*body{}, done: map[*body]bool{},
+		shown: map[string]map[string]string{}, spoken: map[*ast.CallExpr]*body{}, done: map[*body]bool{},
 	}
 	p.texts.number("")
 	p.errors.fresh("<nil>")
@@ -106,15 +130,23 @@ func Program(src *source.Source, options Options, told *notes.List) *Result {
 		if told.IsCarried() {
 			told.Add(token.Position{Line: 1, Column: 1}, notes.Left, "go", "there is no func main()", "")
 		}
-		return &Result{}
+		return &Result{}, true
 	}
 	p.attemptMain(main)
+	if p.isRelaid {
+		return nil, false
+	}
 	if !told.IsCarried() {
 		p.survey(main)
-		return &Result{}
+		return &Result{}, true
 	}
 	p.tellUnused()
-	return p.write()
+	found := p.write()
+	p.checkTexts()
+	if !told.IsCarried() {
+		return &Result{}, true
+	}
+	return found, true
 }
 
 // attemptMain translates `main`, and with it all that it calls.
@@ -229,6 +261,11 @@ func (p *program) instance(it *body, arguments, held []Shape) *instance {
 	for _, shape := range append(append([]Shape{}, arguments...), held...) {
 		found.globals = globalsIn(shape, found.globals)
 	}
+	for _, one := range p.layouts {
+		for _, shape := range one.of {
+			found.globals = globalsIn(shape, found.globals)
+		}
+	}
 	for _, other := range p.instances {
 		found.again = found.again || other.body == it
 	}
@@ -270,6 +307,9 @@ func placeOfBody(it *body) ast.Node {
 func globalsIn(shape Shape, list []*types.Var) []*types.Var {
 	switch it := shape.(type) {
 	case Func:
+		if it.Receiver != nil {
+			list = globalsIn(it.Receiver, list)
+		}
 		for _, global := range it.Body.globals {
 			list = with(list[:len(list):len(list)], global)
 		}

@@ -205,14 +205,21 @@ func isTool(shape Shape) (Tool, bool) {
 	return "", false
 }
 
-// Func is a function value: which function it is, and the shapes of what it holds.
+// Func is a function value: which function it is, the shape of its receiver, if it is a method of one, and the shapes of what it holds.
 type Func struct {
-	Body *body
-	Held []Shape
+	Body     *body
+	Receiver Shape
+	Held     []Shape
 }
 
 func (s Func) leaves() []Leaf {
 	var found []Leaf
+	if s.Receiver != nil {
+		for _, leaf := range s.Receiver.leaves() {
+			leaf.Suffix = join("of", leaf.Suffix)
+			found = append(found, leaf)
+		}
+	}
 	for at, held := range s.Held {
 		for _, leaf := range held.leaves() {
 			leaf.Suffix = join(s.Body.held[at].Name(), leaf.Suffix)
@@ -224,6 +231,9 @@ func (s Func) leaves() []Leaf {
 
 func (s Func) key() string {
 	var keys []string
+	if s.Receiver != nil {
+		keys = append(keys, s.Receiver.key())
+	}
 	for _, held := range s.Held {
 		keys = append(keys, held.key())
 	}

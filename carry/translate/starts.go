@@ -9,11 +9,15 @@ import (
 
 // starts is `go f(..)`.
 func (f *function) starts(it *ast.GoStmt) {
-	to := f.later(it.Call)
-	f.emit("go " + to)
+	if f.startsOfUnion(it) {
+		return
+	}
+	if to := f.later(it.Call); to != "" {
+		f.emit("go " + to)
+	}
 }
 
-// later is a call as the language starts it: of a function with its arguments.
+// later is a call as the language starts it: of a function with its arguments. It is empty where it is started already.
 func (f *function) later(call *ast.CallExpr) string {
 	fun := unparen(call.Fun)
 	if selector, ok := fun.(*ast.SelectorExpr); ok {
@@ -33,7 +37,11 @@ func (f *function) later(call *ast.CallExpr) string {
 			return f.tail(call)
 		}
 	}
-	called := f.function(fun)
+	called := f.functionOrAny(fun)
+	if _, ok := called.Shape.(AnyFunc); ok {
+		f.eachChoice(f.choicesOfAny(call, called), func(to callee) { f.emit("go " + f.started(to)) })
+		return ""
+	}
 	if _, ok := isTool(called.Shape); ok {
 		return f.tail(call)
 	}

@@ -17,7 +17,7 @@ func (f *function) block(list []ast.Stmt) {
 }
 
 func (f *function) statement(stmt ast.Stmt, label string) {
-	f.at = stmt.Pos()
+	f.at, f.handed = stmt.Pos(), ""
 	before := len(f.instance.pieces)
 	if !f.attempt(stmt, func() { f.carryOver(stmt, label) }) {
 		f.loseNames(stmt)
@@ -123,7 +123,7 @@ func (f *function) control(stmt ast.Stmt, label string) {
 	case *ast.RangeStmt:
 		f.ranges(it, label)
 	case *ast.TypeSwitchStmt:
-		f.refuse(it, "interfaces", "a switch over types is not carried", "use the type that stands behind the interface")
+		f.typeSwitch(it, label)
 	default:
 		f.refuse(it, "statements", "this statement is not carried", "")
 	}
@@ -167,6 +167,11 @@ func (f *function) declareSpec(spec *ast.ValueSpec) {
 			f.declareZero(name)
 		}
 		return
+	}
+	for at, e := range spec.Values {
+		if len(spec.Values) == len(spec.Names) {
+			f.refuseTwoOwners(f.src.Info.Defs[spec.Names[at]], e)
+		}
 	}
 	isKnown := f.attempt(spec, func() { f.checkType(spec.Type) })
 	values := f.arguments(spec.Values)
@@ -243,14 +248,15 @@ func (f *function) declareZero(name *ast.Ident) {
 func (f *function) assign(it *ast.AssignStmt) {
 	if it.Tok != token.DEFINE && it.Tok != token.ASSIGN {
 		op := it.Tok - token.ADD_ASSIGN + token.ADD
+		if isString(f.typeOf(it.Lhs[0])) {
+			f.lengthen(it)
+			return
+		}
 		f.update(it, it.Lhs[0], op, f.value(it.Rhs[0]), it.Tok.String())
 		return
 	}
-	if len(it.Lhs) == 2 && len(it.Rhs) == 1 {
-		if arrow, ok := unparen(it.Rhs[0]).(*ast.UnaryExpr); ok && arrow.Op == token.ARROW {
-			f.receiveTwo(it, arrow)
-			return
-		}
+	if len(it.Lhs) == 2 && len(it.Rhs) == 1 && f.assignTwo(it) {
+		return
 	}
 	if call := f.appendsTo(it); call != nil {
 		f.grow(it, call)
@@ -263,7 +269,32 @@ func (f *function) assign(it *ast.AssignStmt) {
 	if f.alias(it) {
 		return
 	}
+	if len(it.Lhs) == len(it.Rhs) {
+		for at, to := range it.Lhs {
+			f.refuseTwoOwners(f.ownerOf(to), it.Rhs[at])
+		}
+	}
 	f.assignAll(it, it.Lhs, f.arguments(it.Rhs))
+}
+
+// assignTwo is a value with a truth value of a receive, a map or an assertion, if it is that.
+func (f *function) assignTwo(it *ast.AssignStmt) bool {
+	switch from := unparen(it.Rhs[0]).(type) {
+	case *ast.UnaryExpr:
+		if from.Op == token.ARROW {
+			f.receiveTwo(it, from)
+			return true
+		}
+	case *ast.IndexExpr:
+		if f.isMap(from.X) {
+			f.lookAssigned(it, from)
+			return true
+		}
+	case *ast.TypeAssertExpr:
+		f.assertionOfTwo(it, from)
+		return true
+	}
+	return false
 }
 
 // alias binds a name to a function that it always stands for; nothing is written.
@@ -284,72 +315,10 @@ func (f *function) alias(it *ast.AssignStmt) bool {
 	return true
 }
 
-// assignAll assigns values to what stands on the left, and declares what is new there.
-func (f *function) assignAll(it *ast.AssignStmt, to []ast.Expr, values []Value) {
-	if len(to) != len(values) {
-		f.refuse(it, "results", "this assignment is not carried", "")
-	}
-	if it.Tok == token.DEFINE {
-		f.define(it, to, values)
-		return
-	}
-	var places []place
-	for at, e := range to {
-		if name, ok := e.(*ast.Ident); ok && name.Name == "_" {
-			places = append(places, place{})
-			continue
-		}
-		before := len(f.instance.pieces)
-		places = append(places, f.place(e))
-		if len(f.instance.pieces) > before {
-			for n := range values {
-				if values[n].Acts && n >= at {
-					f.refuse(it, "arrays", "an index that is looked up beside this value is not carried", "put the value into a variable first")
-				}
-			}
-		}
-	}
-	f.storeAll(places, values, it)
-}
-
-// define declares names. Those that are new and not shared stand in one definition.
-func (f *function) define(it *ast.AssignStmt, to []ast.Expr, values []Value) {
-	isPlain := true
-	for at, e := range to {
-		object := f.src.Info.Defs[e.(*ast.Ident)]
-		isPlain = isPlain && object != nil && !f.isShared(object, f.options.SharesLoops) && len(values[at].Code) > 0
-	}
-	if isPlain && len(to) > 1 {
-		var names, codes []string
-		for at, e := range to {
-			object := f.src.Info.Defs[e.(*ast.Ident)]
-			value := f.fitVariable(values[at], object, e)
-			own := f.leafNames(object.Name(), value.Shape)
-			f.bound[object] = &binding{shape: value.Shape, names: own}
-			names, codes = append(names, own...), append(codes, value.Code...)
-		}
-		f.emit(commas(names) + " := " + commas(codes))
-		return
-	}
-	if len(to) > 1 {
-		for at := range values {
-			if values[at].Acts && at+1 < len(values) {
-				values[at] = f.spill(values[at], "value")
-			}
-		}
-	}
-	for at, e := range to {
-		name := e.(*ast.Ident)
-		object := f.src.Info.Defs[name]
-		switch {
-		case object != nil:
-			f.declare(e, f.fitVariable(values[at], object, e))
-		case name.Name == "_":
-			f.declare(e, values[at])
-		default:
-			f.store(f.place(e), values[at], it)
-		}
-	}
+// isSteady says whether an expression is a constant or a name.
+func (f *facts) isSteady(e ast.Expr) bool {
+	_, isName := unparen(e).(*ast.Ident)
+	return isName || f.src.Info.Types[e].Value != nil
 }
 
 // update is `x op= y`.
@@ -362,7 +331,7 @@ func (f *function) update(node ast.Node, to ast.Expr, op token.Token, value Valu
 	if text, ok := where.shape.(Num); !ok || text.Text != Plain {
 		f.refuse(node, "texts", "texts that are put together while the program runs are not carried", "print the parts one after another")
 	}
-	if !where.cells[0] {
+	if where.entry == nil && !where.cells[0] {
 		code := where.code[0] + " " + written + " " + value.one()
 		if written == "++" || written == "--" {
 			code = where.code[0] + written

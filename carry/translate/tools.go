@@ -93,6 +93,9 @@ var told = map[Tool]string{
 
 // toolMethod is a call of a method of a tool.
 func (f *function) toolMethod(it *ast.CallExpr, selector *ast.SelectorExpr, choice *types.Selection) []Value {
+	if fullName(f.typeOf(selector.X)) == "time.Duration" {
+		return []Value{f.lengthOfTime(it, selector)}
+	}
 	receiver := f.receiver(selector, types.Typ[types.Int], choice)
 	if receiver.Acts {
 		receiver = f.spill(receiver, "tool")

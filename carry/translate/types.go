@@ -7,7 +7,7 @@ import (
 	"rewind/carry/notes"
 )
 
-// shapeOf is the shape of a type. Slices and functions have shapes of their values alone, so their types are refused here.
+// shapeOf is the shape of a type.
 func (f *function) shapeOf(t types.Type, node ast.Node) Shape {
 	if tool := toolOf(t); tool != "" {
 		if _, ok := under(t).(*types.Struct); ok {
@@ -21,6 +21,11 @@ func (f *function) shapeOf(t types.Type, node ast.Node) Shape {
 	if isError(t) {
 		return Num{Error}
 	}
+	return f.shapeOfForm(t, node)
+}
+
+// shapeOfForm is the shape of a type by its form.
+func (f *function) shapeOfForm(t types.Type, node ast.Node) Shape {
 	switch it := under(t).(type) {
 	case *types.Basic:
 		return f.basic(it, node)
@@ -33,6 +38,12 @@ func (f *function) shapeOf(t types.Type, node ast.Node) Shape {
 		return f.channel(it.Elem(), node)
 	case *types.Struct:
 		return f.record(t, it, node)
+	case *types.Slice:
+		return f.growOf(it, false, node)
+	case *types.Map:
+		return f.mapOf(it, node)
+	case *types.Signature:
+		return f.anyFunc(it, node)
 	case *types.Array:
 		if it.Len() > mostElements {
 			f.refuse(node, "arrays", "an array of more than 64 elements is not carried", "use fewer")
@@ -43,6 +54,9 @@ func (f *function) shapeOf(t types.Type, node ast.Node) Shape {
 			f.change(node, "interfaces", "one type alone has the methods of this interface: it stands for it")
 			return f.shapeOf(concrete, node)
 		}
+		if found, ok := f.unionOf(t, node); ok {
+			return found
+		}
 	}
 	f.refuseType(t, node)
 	return nil
@@ -51,12 +65,6 @@ func (f *function) shapeOf(t types.Type, node ast.Node) Shape {
 // refuseType refuses a type that is not carried.
 func (f *function) refuseType(t types.Type, node ast.Node) {
 	switch under(t).(type) {
-	case *types.Slice:
-		f.refuse(node, "slices", "a slice whose length is not known here is not carried", "give it a constant length, or send its elements over a channel")
-	case *types.Map:
-		f.refuse(node, "maps", "maps are not carried", "use variables, an array of a constant length, or a goroutine that answers")
-	case *types.Signature:
-		f.refuse(node, "functions", "a function value that is not known here is not carried", "call the function by its name")
 	case *types.Interface:
 		f.refuse(node, "interfaces", "interfaces are not carried, but for error", "use the type that stands behind it")
 	}

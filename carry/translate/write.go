@@ -12,6 +12,7 @@ type Place struct {
 	SourceLine int    `json:"source"` // of the source, from 1
 	Column     int    `json:"column"` // of the source, from 1
 	Function   string `json:"function"`
+	Moves      string `json:"moves,omitempty"` // what the values stand for that go over a channel here
 }
 
 // A writer writes pieces, each on the line that it has in the source where that is still to come.
@@ -34,18 +35,26 @@ func (p *program) write() *Result {
 		w.name = it.name
 		w.function(it)
 	}
-	for at := 0; at < len(p.texted); at++ {
-		w.helper(p.texted[at]())
-	}
+	written := w.helpers(0)
 	for _, it := range p.prints {
 		w.helper(p.printText(it))
 	}
+	w.helpers(written)
 	w.newline()
 	result := &Result{Text: w.text.String(), Places: w.places, Names: map[string]string{}, Texts: p.texts.list, Errors: p.errors.list}
+	result.Forms, result.Variables = p.formsShown(), p.shown
 	for _, it := range p.written {
 		result.Names[it.name] = it.body.name
 	}
 	return result
+}
+
+// helpers writes the helpers from one on, with those that they ask for, and gives how many there are now.
+func (w *writer) helpers(from int) int {
+	for ; from < len(w.program.texted); from++ {
+		w.helper(w.program.texted[from]())
+	}
+	return from
 }
 
 func (w *writer) newline() {
@@ -120,8 +129,14 @@ func (w *writer) piece(one piece, isHead, isElsewhere bool) {
 // note keeps from where the line comes.
 func (w *writer) note(one piece) {
 	position := w.program.src.Fset.Position(one.at)
-	place := Place{w.line, position.Line, position.Column, w.name}
+	place := Place{w.line, position.Line, position.Column, w.name, ""}
+	if saysText(one.moves) {
+		place.Moves = one.moves
+	}
 	if len(w.places) > 0 && w.places[len(w.places)-1].Line == w.line && w.places[len(w.places)-1].SourceLine == position.Line {
+		if last := &w.places[len(w.places)-1]; last.Moves == "" {
+			last.Moves = place.Moves
+		}
 		return
 	}
 	w.places = append(w.places, place)

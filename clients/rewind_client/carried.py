@@ -11,6 +11,7 @@ from typing import Any, NamedTuple, Optional
 from .errors import SourceRefused
 from .finding import REPOSITORY, is_program
 from .program import Program
+from .texts import Texts
 
 SECONDS = 20
 LEFT, CHANGED = "left", "changed"
@@ -27,9 +28,13 @@ class CarriedProgram(Program):
         self.source_lines = source.decode("utf-8", "replace").split("\n")
         self.sources: dict[int, int] = {}
         self.places: dict[int, int] = {}
+        self.texts = Texts(told)
+        self.moves: dict[int, str] = {}
         for place in told["places"]:
             self.sources.setdefault(place["line"], place["source"])
             self.places.setdefault(place["source"], place["line"])
+            if "moves" in place:
+                self.moves[place["line"]] = place["moves"]
         self.changes = sum(note["kind"] == CHANGED for note in told["notes"])
 
     def line(self, number: int) -> str:
@@ -43,6 +48,15 @@ class CarriedProgram(Program):
 
     def shown(self, line: int) -> int:
         return self.sources.get(line, 0)
+
+    def kind_of(self, function: str, name: str) -> str:
+        return self.texts.kind(function, name)
+
+    def kind_moved(self, lines: Sequence[int]) -> str:
+        return next((self.moves.get(line, "") for line in lines if line in self.sources), "")
+
+    def value(self, kind: str, value: str) -> str:
+        return self.texts.shown(kind, value)
 
     def where(self, line: int) -> str:
         source = self.shown(line)

@@ -51,6 +51,18 @@ class Program:
         """The line of the file from which a line of the program comes, or 0."""
         return line
 
+    def kind_of(self, function: str, name: str) -> str:
+        """What the number in a variable stands for, or those in its channel: `text`, `error`, or an empty text for itself."""
+        return ""
+
+    def kind_moved(self, lines: Sequence[int]) -> str:
+        """What a value stands for that goes over a channel on a line; the lines that called it follow."""
+        return ""
+
+    def value(self, kind: str, value: str) -> str:
+        """A value of a kind as it is shown."""
+        return value
+
     def where(self, line: int) -> str:
         """Where a line stands, in words."""
         return f"line {line}"

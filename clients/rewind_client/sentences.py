@@ -96,7 +96,9 @@ class Sentences:
     def wait(self, wait: Wait, does: str = "waits") -> Iterator[str]:
         """What a goroutine waits for, and who may still serve it."""
         place = wait.places[0] if wait.places else Place("", 0)
-        wishes = " or ".join(dict.fromkeys(wish_in_words(it) for it in wait.wishes))
+        program = self.session.program
+        kind = program.kind_moved([it.line for it in wait.places])
+        wishes = " or ".join(dict.fromkeys(wish_in_words(it, program.value(kind, it.value)) for it in wait.wishes))
         if not wait.wishes:
             yield f"{wait.goroutine} {does if 'ever' in does else does + ' for ever'} at {self.at(place)}"
             yield INDENT + "its select has no cases"
@@ -115,7 +117,8 @@ class Sentences:
         """Who holds what is waited for, and who may still serve it."""
         name = wish.variable or wish.channel
         for hold in wish.items[:MAX_ITEMS]:
-            yield INDENT + f"{self.holder(hold, wish)} put {hold.value} into {name} at {self.at_called(hold)}"
+            value = self.session.program.value(self.session.kind_of_channel(wish.channel), hold.value)
+            yield INDENT + f"{self.holder(hold, wish)} put {value} into {name} at {self.at_called(hold)}"
         if len(wish.items) > MAX_ITEMS:
             yield INDENT + f"and {len(wish.items) - MAX_ITEMS} items more are in it"
         if wish.taken:
@@ -178,9 +181,9 @@ class Sentences:
             yield INDENT + f"called from {place.function}, {self.at(place)}"
 
 
-def wish_in_words(wish: Wish) -> str:
-    """What is waited for, by the goroutine's own name for the channel: `send 3 to out (g0/c1)`."""
-    value = f"send {wish.value} to" if wish.verb is Verb.SEND and wish.value else wish.verb.value
+def wish_in_words(wish: Wish, shown: str = "") -> str:
+    """What is waited for, by the goroutine's own name for the channel, and with its value as it is shown: `send 3 to out (g0/c1)`."""
+    value = f"send {shown or wish.value} to" if wish.verb is Verb.SEND and wish.value else wish.verb.value
     if wish.channel == NIL:
         return f"{value} a nil channel"
     return f"{value} {f'{wish.variable} ({wish.channel})' if wish.variable else wish.channel}"

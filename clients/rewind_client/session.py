@@ -281,6 +281,19 @@ class Session:
         variable = self.variable_of(channel)
         return f"{variable} ({channel})" if variable else channel
 
+    def value_of(self, note: Note) -> str:
+        """The value that a step handed over, as its text where it stands for one."""
+        kind = self.program.kind_moved([it.line for it in (note.place, *note.callers)])
+        return self.program.value(kind, note.value)
+
+    def kind_of_channel(self, channel: str) -> str:
+        """What the values of a channel stand for, as a variable tells that holds it now; else an empty text."""
+        held = (
+            self.program.kind_of(frame.function, variable.name)
+            for goroutine in self.goroutines() for frame in goroutine.frames for variable in frame.variables if variable.value == channel
+        )  # fmt: skip
+        return next((kind for kind in held if kind), "")
+
     def variable_of(self, channel: str) -> str:
         """The variable that held a channel first, else one that holds it now."""
         if len(self.log()) <= NOTED:

@@ -37,7 +37,7 @@ class Stories:
 
     def use(self, note: Note) -> str:
         """A step that used a channel."""
-        name, value = self.name(note.channel), note.value
+        name, value = self.name(note.channel), self.session.value_of(note)
         partner = " or ".join(step_owner(wait) for wait in note.woke)
         clause = f"case {note.kind.clause}: " if note.kind.clause else ""
         if note.verb is Verb.CLOSE:
@@ -58,9 +58,9 @@ class Stories:
     def wait(self, note: Note, name: str) -> str:
         """A step that began to wait, and what ended the wait."""
         verb = Verb.SEND if note.kind.word is KindWord.SEND_WAIT else Verb.RECEIVE
-        wish = f"send {note.value} to" if verb is Verb.SEND and note.value else verb.value
+        wish = f"send {self.session.value_of(note)} to" if verb is Verb.SEND and note.value else verb.value
         waker = self.session.follower.wakers.get(note.step, "")
-        value = self.session.follower.notes[waker].value if waker and note.verb is Verb.RECEIVE else ""
+        value = self.session.value_of(self.session.follower.notes[waker]) if waker and note.verb is Verb.RECEIVE else ""
         until = f", until {waker}{' with ' + value if value else ''}" if waker else ""
         return f"waits to {wish} {name}{until}"
 
@@ -79,14 +79,21 @@ class Stories:
     def channel(self, channel: Channel) -> str:
         """A channel and its queues: `open, 1 of 2 items: 3; g0.1 waits to send 4`."""
         parts = ["open" if channel.is_open else "closed"]
+        kind, program = self.session.kind_of_channel(channel.name), self.session.program
         if channel.capacity:
-            items = ": " + " ".join(channel.items[:20]) + (" .." if len(channel.items) > 20 else "") if channel.items else ""
+            shown = " ".join(program.value(kind, it) for it in channel.items[:20])
+            items = f": {shown}{' ..' if len(channel.items) > 20 else ''}" if channel.items else ""
             parts.append(f"{len(channel.items)} of {channel.capacity} items{items}")
         else:
             parts.append("no buffer")
-        senders = [waiter_in_words(it, f"send {it.value}") for it in channel.senders[:10]]
+        senders = [waiter_in_words(it, f"send {program.value(kind, it.value)}") for it in channel.senders[:10]]
         receivers = [waiter_in_words(it, "receive") for it in channel.receivers[:10]]
         return "; ".join([", ".join(parts), *senders, *receivers])
+
+    def variable(self, function: str, name: str, value: str) -> str:
+        """The value of a variable of a function, as its text where it stands for one."""
+        program = self.session.program
+        return self.value(program.value(program.kind_of(function, name), value))
 
     def value(self, value: str) -> str:
         """A value, with a variable's name where it is a channel."""

@@ -112,7 +112,7 @@ class Sentences:
         return self.session.name_of(note.channel) if note.channel else "a channel"
 
     def value(self, note: Note) -> str:
-        return {"": "a value", "{}": "a token"}.get(note.value, note.value)
+        return {"": "a value", "{}": "a token"}.get(note.value, self.session.value_of(note))
 
     def partner(self, note: Note) -> str:
         return step_owner(note.woke[0]) if note.woke else "another goroutine"

@@ -154,7 +154,7 @@ class Looking:
         for number, (frame, place) in enumerate(zip(goroutine.frames, self.shell.session.places(goroutine))):
             at = self.shell.program.at(place.line) if place.line else "line not known"
             self.screen.say(f"#{number} {frame.function}, {at}")
-            values = [f"{it.name}={stories.value(it.value)}" for it in frame.variables]
+            values = [f"{it.name}={stories.variable(frame.function, it.name, it.value)}" for it in frame.variables]
             if values:
                 self.screen.say("   " + " ".join(values), "faint")
 
@@ -216,7 +216,7 @@ class Looking:
             values = frame.values_of(name)
             for value in values:
                 blocks = f", in one of {len(values)} blocks" if len(values) > 1 else ""
-                self.screen.say(f"{name} = {stories.value(value)}   (in {frame.function}{blocks})")
+                self.screen.say(f"{name} = {stories.variable(frame.function, name, value)}   (in {frame.function}{blocks})")
                 if is_channel(value):
                     self.one_channel(value)
             if values:
