@@ -1,6 +1,7 @@
 """A search of all schedules from where a session stands, by `rewind --search`."""
 from __future__ import annotations
 
+import re
 import subprocess
 import time
 from collections.abc import Callable, Sequence
@@ -21,6 +22,8 @@ STATES = 1_000_000
 TICK = 0.05
 # What a sentence on a bad end says where it is no panic.
 DEADLOCK = "deadlock"
+# How many states were seen, in the sentence where no schedule ends badly.
+SEEN = re.compile(r"all (\d+) states seen|its one state seen")
 
 
 class Answer(Enum):
@@ -38,6 +41,12 @@ class Searched:
     answer: Answer
     sentence: str
     commands: tuple[str, ...] = ()
+
+    @property
+    def states(self) -> Optional[int]:
+        """How many states were seen, where no schedule ends badly."""
+        seen = SEEN.search(self.sentence)
+        return int(seen[1] or 1) if seen else None
 
 
 class Blamed(NamedTuple):

@@ -38,13 +38,18 @@ def record_of(hunted: Hunt, told: Sequence[Told], report: Report, searched: Opti
     return {
         "file": hunted.plan.name,
         "status": status,
-        "search": {"answer": ANSWERS[searched.answer], "commands": list(searched.commands)} if searched else None,
+        "search": search_as(searched) if searched else None,
         "seed": hunted.plan.seed,
         "schedules": len(hunted.outcomes),
         "ends": list(ends(hunted, report)),
         "schedulers": list(schedulers(hunted)),
         "found": [found_as(report, one) for one in told],
     }
+
+
+def search_as(searched: Searched) -> Record:
+    """What a search of all schedules told, with how many states it saw where none ends badly."""
+    return {"answer": ANSWERS[searched.answer], "states": searched.states, "commands": list(searched.commands)}
 
 
 def ends(hunted: Hunt, report: Report) -> Iterator[Record]:

@@ -8,12 +8,13 @@ import subprocess
 import sys
 from collections.abc import Callable, Sequence
 from pathlib import Path
+from typing import Optional
 
 import pytest
 
 from rewind_client.errors import Cancelled, ProcessError, RewindError
 from rewind_client.opening import open_session
-from rewind_client.searching import Answer, ahead, search, search_from
+from rewind_client.searching import Answer, Searched, ahead, search, search_from
 
 from support.places import CLIENTS, EXAMPLES
 
@@ -146,3 +147,16 @@ def test_a_hunt_searches_first(hunt: Run, tmp_path: Path) -> None:
     assert hunt(str(thief), "--scheduler", "round-robin", "--ignore", "deadlock").returncode == 0
     record = json.loads(hunt(str(thief), "--scheduler", "round-robin", "--json").stdout)
     assert record["status"] == 1 and record["found"] == [] and record["search"]["answer"] == "a schedule ends badly"
+    assert record["search"]["states"] is None and record["search"]["commands"]
+
+
+@pytest.mark.parametrize(
+    ("sentence", "states"),
+    [
+        ("no schedule ends badly: all 1040 states seen", 1040),
+        ("no schedule ends badly: its one state seen", 1),
+        ("a schedule of 24 steps ends in a deadlock", None),
+    ],
+)
+def test_how_many_states_were_seen(sentence: str, states: Optional[int]) -> None:
+    assert Searched(Answer.NONE_BAD, sentence).states == states
