@@ -2,11 +2,13 @@
 """Writes what is said of commands, codes and exit statuses from the texts beside this file.
 
     python3 -m words.make           writes them
-    python3 -m words.make --check   fails where one does not stand as made, or where a code of the definitions has no text
+    python3 -m words.make --check   fails where one does not stand as made, where a code of the definitions has no text, or where a phrase
+                                    of the page lacks a translation
 
 These are the program's constants (crates/gr_console/src/words.rt, meanings), the list of the codes (its specs/Codes.antt), the
 manual page (docs/rewind.1), the marked tables of docs/COMMANDS.md and docs/LANGUAGE.md, the sessions and stories of
-docs/SESSIONS.md, and what the clients and the page know of these (clients/rewind_client/words.json, page/words.json).
+docs/SESSIONS.md, and what the clients and the page know of these (clients/rewind_client/words.json, page/words.json). What the page
+says in other languages stands in the folder `languages`, and becomes page/languages.json.
 """
 import argparse
 import json
@@ -16,7 +18,7 @@ import sys
 import textwrap
 from collections.abc import Sequence
 
-from words import stories
+from words import languages, stories
 from words.texts import CODES, COMMANDS, EXAMPLE, PROGRAM, SESSIONS, TEXTS, TITLES, Entry, bare, filled, plain
 
 ROOT = os.path.dirname(os.path.dirname(os.path.realpath(__file__)))
@@ -27,6 +29,7 @@ NAMES = "crates/gr_console/specs/Codes.antt"
 MANUAL = "docs/rewind.1"
 CLIENTS = "clients/rewind_client/words.json"
 PAGE = "page/words.json"
+PHRASES = "page/languages.json"
 WIDTH = 78
 
 
@@ -300,6 +303,13 @@ def page_words() -> str:
     })
 
 
+def page_phrases() -> str:
+    """The languages of the page, and each of its phrases in all of them, one a line."""
+    made = languages.table()
+    rows = ",\n".join(json.dumps(row, ensure_ascii=False) for row in made["phrases"])
+    return f'{{"languages": {json.dumps(made["languages"], ensure_ascii=False)},\n"phrases": [\n{rows}\n]}}\n'
+
+
 # That each code has its text.
 
 
@@ -332,12 +342,12 @@ def without_text() -> list[str]:
 
 def main() -> None:
     parser = argparse.ArgumentParser(description="Writes what is said of commands, codes and exit statuses.")
-    parser.add_argument("--check", action="store_true", help="fail where one does not stand as made, or a code has no text")
+    parser.add_argument("--check", action="store_true", help="fail where one does not stand as made, or a code or a phrase has no text")
     asked = parser.parse_args()
-    made = {WORDS: words(), NAMES: names(), MANUAL: manual(), CLIENTS: client_words(), PAGE: page_words()}
+    made = {WORDS: words(), NAMES: names(), MANUAL: manual(), CLIENTS: client_words(), PAGE: page_words(), PHRASES: page_phrases()}
     made.update((f"{MEANINGS}/{section}.rt", pages(section)) for section in CODES if section)
     made.update((name, with_tables(name, content)) for name, content in tables().items())
-    wrong = without_text()
+    wrong = without_text() + languages.faults()
     for path, text in made.items():
         whole = os.path.join(ROOT, path)
         stands = os.path.exists(whole) and read(path) == text
