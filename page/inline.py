@@ -3,8 +3,9 @@
 
     python3 -m page.inline MODULE.wasm OUT.html [--unproved]
 
-With --unproved the page says that its program is not proved. The meanings of codes, kinds and commands and the texts of the
-stories come from words.json, which `make words` makes, and the refusals of sources from clients/, so that nothing is said twice.
+With --unproved the page says that its program is not proved. The meanings of codes, kinds and commands and the texts of the stories
+come from words.json, and its phrases in all languages from languages.json, which `make words` makes. The refusals of sources come from
+clients/. So nothing is said twice.
 """
 from __future__ import annotations
 
@@ -67,6 +68,12 @@ def told_words() -> Words:
     return words
 
 
+def told_languages() -> dict[str, Any]:
+    """The languages of the page, and its phrases in each, as `words/make.py` leaves them."""
+    languages: dict[str, Any] = json.loads(read(f"{HERE}/languages.json"))
+    return languages
+
+
 def story(entry: str | dict[str, str], level: str, words: Words) -> Story:
     """A story of the menu: its source, and its commands with what is told before each."""
     entry = {"name": entry} if isinstance(entry, str) else entry
@@ -116,7 +123,19 @@ def given() -> dict[str, Any]:
     refusals = json.loads(read(f"{ROOT}/clients/rewind_client/refusals.json"))
     told = {name: words[name] for name in ("codes", "kinds", "faults", "go", "commands", "version")}
     licence = notices.of_page(kit.folder(), read(LICENCE))
-    return {**told, "stories": stories(words), "exercises": exercises(), "refusals": refusals, "licence": licence}
+    languages = told_languages()["languages"]
+    return {**told, "languages": languages, "stories": stories(words), "exercises": exercises(), "refusals": refusals, "licence": licence}
+
+
+def deflated(content: bytes) -> str:
+    """Bytes, deflated, in base 64."""
+    deflater = zlib.compressobj(9, zlib.DEFLATED, -15)
+    return base64.b64encode(deflater.compress(content) + deflater.flush()).decode()
+
+
+def phrases() -> str:
+    """The phrases of the page in all languages, deflated, in base 64."""
+    return deflated(json.dumps(told_languages()["phrases"], ensure_ascii=False).encode())
 
 
 def program(wasm: str) -> str:
@@ -124,8 +143,7 @@ def program(wasm: str) -> str:
     if not os.path.isfile(wasm):
         kit.stop(f"there is no module {wasm}")
     with open(wasm, "rb") as it:
-        deflater = zlib.compressobj(9, zlib.DEFLATED, -15)
-        return base64.b64encode(deflater.compress(it.read()) + deflater.flush()).decode()
+        return deflated(it.read())
 
 
 def page(wasm: str, is_proved: bool) -> str:
@@ -134,6 +152,7 @@ def page(wasm: str, is_proved: bool) -> str:
     scripts = [read(f"{MIRROR}/lib/codemirror.js"), read(f"{MIRROR}/mode/go/go.js")]
     safe = json.dumps(given()).replace("</", "<\\/")
     parts = [f'<script id="program" type="application/octet-stream">{program(wasm)}</script>']
+    parts += [f'<script id="phrases" type="application/octet-stream">{phrases()}</script>']
     parts += [f'<script id="given" type="application/json">{safe}</script>']
     parts += [f'<script id="worker" type="text/plain">\n{one_script("engine/worker.js", "iife")}</script>']
     parts += ["<script>" + it.replace("</script", "<\\/script") + "</script>" for it in scripts]

@@ -34,16 +34,6 @@ export function tableRow(name, text, says) {
   return make("tr", {}, make("th", { scope: "row" }, make(name, {}, text)), make("td", {}, says));
 }
 
-// How many of something there are, in words: `1 command`, `2,000 commands`.
-/**
- * @param {number} count
- * @param {string} noun
- */
-export const counted = (count, noun) => `${count.toLocaleString("en")} ${noun}${count === 1 ? "" : "s"}`;
-
-/** @param {number} count */
-export const inSteps = (count) => counted(count, "step");
-
 // The element of this id. It is there.
 /** @param {string} id */
 export const find = (id) => /** @type {HTMLElement} */ (document.getElementById(id));

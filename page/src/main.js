@@ -6,6 +6,7 @@ import { askedBy, inflated } from "./control/linking.js";
 import { begin, linked, openBeginning } from "./control/opening.js";
 import { embed, isEmbedded, linkToFull } from "./control/embedding.js";
 import { keep, keepOwn, keepSettings, settings } from "./control/keeping.js";
+import { listenToLanguage, takeLanguage } from "./control/language.js";
 import { erred } from "./control/losses.js";
 import { exportedRun } from "./exports/saving.js";
 import { legend } from "./picture/legend.js";
@@ -18,6 +19,7 @@ import { Page } from "./control/page.js";
 import { parseFault } from "./engine/protocol.js";
 import { isUnanswered } from "./engine/remote.js";
 import { asPng } from "./picture/saved.js";
+import { moving } from "./picture/moving.js";
 import { savePicture } from "./picture/saving.js";
 import { tokenRules } from "./tokens.js";
 import { PICTURE_RULES } from "./picture/picture.js";
@@ -29,20 +31,21 @@ import { frameOf } from "./control/sharing.js";
 import { makePanes } from "./panes/splitters.js";
 import { paneEvents, showStepsOf } from "./control/asking.js";
 import { watchExercise } from "./lessons/tasks.js";
+import { phrase, phraseKey, spoken, translated } from "./phrases.js";
 
-const BROWSERS = "Rewind needs a browser with WebAssembly: Chrome or Edge 103, Firefox 113, Safari 16.4, or newer ones.";
+const BROWSERS = phraseKey("Rewind needs a browser with WebAssembly: Chrome or Edge 103, Firefox 113, Safari 16.4, or newer ones. This one says: {reason}");
 
 /** @returns {Given} */
 const given = () => JSON.parse(find("given").textContent || "");
 
-function makePage() {
-  const told = given();
+/** @param {Given} told */
+function makePage(told) {
   const words = new Words(told);
   /** @type {{page?: Page}} */
   const made = {};
   const later = () => /** @type {Page} */ (made.page);
   made.page = new Page(told, makeViews(told, later, words, paneEvents(later), (line) => showStepsOf(later(), line)), words);
-  words.where = (line) => made.page?.session?.origin.where(line) || `line ${line}`;
+  words.where = (line) => made.page?.session?.origin.where(line) || phrase("line {line}", { line: String(line) });
   return later();
 }
 
@@ -56,7 +59,7 @@ async function makeMachine() {
 
 /** @param {Page} page */
 function fillHelp({ given: { commands, licence } }) {
-  find("commands").append(...commands.map(([command, says]) => tableRow("code", command, says)));
+  find("commands").append(...commands.map(([command, says]) => tableRow("code", command, translated(says))));
   find("licence").textContent = licence;
   find("legend").innerHTML = legend();
 }
@@ -67,7 +70,8 @@ function listenToLinks(page) {
   window.addEventListener("hashchange", async () => {
     const { link } = await linked(page);
     if (!link) return;
-    const { isEmbedded: isFrame, isAsking } = askedBy(location.hash);
+    const { isEmbedded: isFrame, isAsking, language } = askedBy(location.hash);
+    if (language && language !== spoken()) return location.reload();
     embed(isFrame);
     page.prediction.set(isAsking);
     page.views.editor.refresh();
@@ -135,8 +139,10 @@ function listenToErrors(page) {
 async function start() {
   document.head.append(make("style", {}, tokenRules() + PICTURE_RULES));
   embed(askedBy(location.hash).isEmbedded);
+  const told = given();
+  await takeLanguage(told.languages);
   takeSettings();
-  const page = makePage();
+  const page = makePage(told);
   listenToErrors(page);
   listenToActions(page);
   listenToKeys(page);
@@ -148,6 +154,7 @@ async function start() {
   fillHelp(page);
   watchExercise(page);
   linkToFull(page);
+  listenToLanguage(page);
   page.prediction.set(askedBy(location.hash).isAsking);
   const { shared, fault, isFirst, theme } = await begin(page);
   if (theme) setTheme(theme);
@@ -156,11 +163,11 @@ async function start() {
     page.machine = await makeMachine();
   } catch (hindrance) {
     find("cannot").hidden = false;
-    find("cannot").textContent = `${BROWSERS} This one says: ${hindrance instanceof Error ? hindrance.message : hindrance}`;
-    return page.say("The program cannot run in this browser."), false;
+    find("cannot").textContent = phrase(BROWSERS, { reason: hindrance instanceof Error ? hindrance.message : String(hindrance) });
+    return page.say(phrase("The program cannot run in this browser.")), false;
   }
   // The tests and the pictures of the documents reach the page by this name.
-  window.rewind = { page, program: page.machine.program, Session: Engine, act, openStory, toggleBreak, savePicture, asPng, exportedRun, frameOf, explain, parseFault };
+  window.rewind = { page, program: page.machine.program, Session: Engine, act, openStory, toggleBreak, savePicture, moving, asPng, exportedRun, frameOf, explain, parseFault };
   await openBeginning(page, shared);
   if (fault) page.say(fault, "bad");
   keepWork(page);

@@ -44,7 +44,7 @@ interface Lesson { title: string; source: string; shows: string; told: Told[]; t
 interface SearchedWhole { source: string; status: number; sentence: string }
 interface Given {
   codes: {[code: string]: string}; kinds: {[kind: string]: string}; faults: {[fault: string]: string}; go: {[fault: string]: string}; commands: string[][];
-  stories: Story[]; exercises: Exercise[]; refusals: {[code: string]: RefusalTable}; licence: string; version: string;
+  stories: Story[]; exercises: Exercise[]; refusals: {[code: string]: RefusalTable}; licence: string; version: string; languages: {[code: string]: string};
 }
 interface RefusalTable { meaning: string; forms: RefusalForm[] }
 interface RefusalForm {

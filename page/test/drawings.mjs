@@ -56,9 +56,24 @@ async function pictures(hands) {
   await hands.idle();
   assert.deepEqual(await browser.run("[...document.querySelectorAll('#picture .drawn .edge')].map((it) => it.getAttribute('class'))"), ["edge start", "edge start"], "the arrows of the order of waiting can be left out");
   await browser.run("rewind.page.views.columns.toggleOrder()");
+  await savedPictures(browser);
+}
+
+// Pictures of the deadlock as files.
+/** @param {TestBrowser} browser */
+async function savedPictures(browser) {
   const png = await browser.run("rewind.savePicture(rewind.page).then((text) => rewind.asPng(text)).then((it) => [it.type, it.size > 10000])");
   assert.deepEqual(png, ["image/png", true], "a picture can be saved as PNG");
   assert.ok((await browser.run("rewind.savePicture(rewind.page)")).includes("order of waiting"), "a saved picture has a legend");
+  const delays = `rewind.savePicture(rewind.page).then((text) => { const ids = rewind.page.session.log.steps(0, Infinity).map(({ id }) => id);
+    const drawn = new DOMParser().parseFromString(rewind.moving(text, ids), "image/svg+xml");
+    const late = (name) => [...drawn.querySelectorAll("[data-" + name + "]")].map((it) => [it.getAttribute("data-" + name), parseFloat(it.style.animationDelay)]);
+    return { isWhole: !drawn.querySelector("parsererror"), steps: late("step"), marks: late("mark"), arrows: late("to") }; })`;
+  const { isWhole, steps, marks, arrows } = await browser.run(delays);
+  const known = new Map(steps);
+  assert.ok(isWhole && steps.length > 3 && arrows.length > 1, "a moving picture is whole");
+  assert.ok(steps.every((/** @type {[string, number]} */ [, delay], /** @type {number} */ at) => !at || delay > steps[at - 1][1]), "its steps appear one after another");
+  assert.ok([...marks, ...arrows].every(([id, delay]) => known.get(id) === delay), "each with its mark and the arrows into it");
   const cut = `rewind.savePicture(rewind.page).then((text) => { const host = document.createElement("div"); host.innerHTML = text; document.body.append(host);
     const svg = host.querySelector("svg"); const { right } = svg.getBoundingClientRect();
     const found = [...svg.querySelectorAll("text")].filter((it) => it.getBoundingClientRect().right > right).map((it) => it.textContent); host.remove(); return found; })`;

@@ -53,13 +53,13 @@ function unnamed() {
 }
 
 // Runs in the page: buttons and tabs that cut their words off.
-function clippedWords() {
+export function clippedWords() {
   const shown = [...document.querySelectorAll("button, [role=tab]")].filter((it) => it.getClientRects().length && !it.closest(".unseen"));
   return shown.filter((it) => it.scrollWidth > it.clientWidth + 1 || it.getBoundingClientRect().right > window.innerWidth).map(({ textContent }) => textContent);
 }
 
 // Runs in the page: steps whose lines reach out of the picture.
-function clippedLines() {
+export function clippedLines() {
   const { right } = /** @type {Element} */ (document.getElementById("picture")).getBoundingClientRect();
   const steps = [...document.querySelectorAll("#picture [data-step]")];
   /** @param {Element} it */
@@ -105,7 +105,7 @@ async function look(browser, folder, { name, width, height, scheme = "light", me
 
 // What a scene has opened is closed again.
 /** @param {Hands} hands */
-async function leave({ browser }) {
+export async function leave({ browser }) {
   await browser.call("Emulation.setEmulatedMedia", { media: "", features: [] });
   await browser.run("document.querySelectorAll('dialog[open]').forEach((it) => it.close()), document.body.click(), 0");
   await browser.run("document.body.classList.remove('embed'), document.getElementById('full').hidden = true, rewind.page.prediction.set(false), 0");

@@ -7,6 +7,7 @@ import { realGo } from "./carrying.mjs";
 import { drawings } from "./drawings.mjs";
 import { embedded } from "./embed.mjs";
 import { exports } from "./exports.mjs";
+import { inLanguages } from "./languages.mjs";
 import { inputMethods } from "./insertions.mjs";
 import { looks } from "./looks.mjs";
 import { ownLessons } from "./own.mjs";
@@ -67,6 +68,7 @@ const ALL = [
   { name: "prediction", part: predictions },
   { name: "real Go", part: (/** @type {TestContext} */ t, /** @type {TestBrowser} */ browser) => realGo(t, browser, PAGE) },
   { name: "all schedules", part: searches },
+  { name: "languages", part: (/** @type {TestContext} */ t, /** @type {TestBrowser} */ browser) => inLanguages(t, browser, PAGE) },
   { name: "drawings", part: drawings },
   { name: "files for other tools", part: exports },
   { name: "in a frame", part: (/** @type {TestContext} */ t, /** @type {TestBrowser} */ browser) => embedded(t, browser, { page: PAGE, folder: LOOKS }) },

@@ -35,6 +35,29 @@ async function holders(hands) {
 /** @param {Hands} hands */
 const why = (hands) => hands.browser.run("document.getElementById('why-lines').textContent");
 
+// The tab Why: steps and goroutines are links, a graph has the cycle, and the step to blame can be taken back.
+/** @param {Hands} hands */
+async function whyWithLinks(hands) {
+  await hands.story("deadlock");
+  await hands.key("r");
+  await hands.tab("why");
+  assert.equal(await hands.browser.run("document.querySelectorAll('#why-graph .cycle').length"), 2, "the graph has the arrows of the cycle");
+  assert.deepEqual(await hands.browser.run("[...document.querySelectorAll('#why-graph .name')].map((it) => it.textContent)"), ["g0", "g0.1", "g0.2"], "and those that wait");
+  await hands.browser.run("[...document.querySelectorAll('#why-lines .link')].find((it) => it.textContent === 'g0.2#1').click()");
+  await hands.idle();
+  assert.equal(await hands.browser.run("rewind.page.pointing.pinned"), "g0.2#1", "a step is a link");
+  await hands.browser.run("[...document.querySelectorAll('#state .link')].find((it) => it.textContent === 'g0.1').click()");
+  await hands.idle();
+  assert.deepEqual(await hands.browser.run("[rewind.page.pointing.pinned, rewind.page.chosen]"), ["g0.1#3", "g0.1"], "and a goroutine leads to its last step");
+  await hands.act("find-blame");
+  const [, blamed] = /^(\S+) is to blame: before it some schedule ends well, and after it none does\.$/.exec(await hands.browser.run("document.getElementById('blame-text').textContent")) || [];
+  assert.ok((await hands.ids()).includes(blamed), "the step to blame is named");
+  await hands.act("take-blamed");
+  assert.ok(!(await hands.ids()).includes(blamed), "and can be taken back");
+  assert.equal(await hands.browser.run("document.getElementById('blame-text').textContent"), "", "then nobody is to blame");
+  await hands.tab("state");
+}
+
 /** @param {Hands} hands */
 async function manyGoroutines(hands) {
   await hands.source("package main\nfunc wait(c chan int) { <-c }\nfunc main() {\n\tc := make(chan int)\n\tfor i := 0; i < 40; i++ { go wait(c) }\n\tc <- 1\n}\n");
@@ -234,6 +257,7 @@ const WORDS = {
   "holders of a channel": holders,
   "deadlocks, panics and leaks": states,
   "a run behind the end": ends,
+  "why, with links": whyWithLinks,
   "goroutines that are not shown": unseenGoroutines,
   "panes beside many goroutines": manyGoroutines,
   "places in the source": places,

@@ -8,23 +8,27 @@ import { download, field, find } from "../element.js";
 import { copyFrame, copyLink, openFiles, saveFile } from "./sharing.js";
 import { MOST_STEPS } from "./page.js";
 import { runAlone, runToLine, stepOver } from "./moves.js";
+import { moving } from "../picture/moving.js";
 import { savePicture } from "../picture/saving.js";
 import { search } from "./asking.js";
 import { follow, searchAll, searchWhole } from "./searching.js";
 import { showCompared } from "../panes/compare.js";
 import { listenToAuthor, openAuthor } from "../lessons/author.js";
+import { showParting } from "../schedules/parting.js";
 import { nextTask, openTask } from "../lessons/tasks.js";
 import { nextOfStory } from "./telling.js";
+import { findBlame } from "../panes/why.js";
 import { ownText } from "./keeping.js";
+import { phrase } from "../phrases.js";
 
 /** @typedef {import("./page.js").Page} Page */
 
 // A run of as many steps as the field says.
 /** @param {Page} page */
 function run(page) {
-  const text = field("count").value.trim().replace(/^\d{1,3}([, ]\d{3})+$/, (count) => count.replace(/\D/g, ""));
+  const text = field("count").value.trim().replace(/^\d{1,3}([., \u00a0\u202f]\d{3})+$/, (count) => count.replace(/\D/g, ""));
   const count = Number(text);
-  if (!/^\d+$/.test(text) || count < 1 || count > MOST_STEPS) return page.say("Run takes a whole number of steps, from 1 to 1,000,000.", "bad");
+  if (!/^\d+$/.test(text) || count < 1 || count > MOST_STEPS) return page.say(phrase("Run takes a whole number of steps, from 1 to {most}.", { most: MOST_STEPS }), "bad");
   return page.perform(`run ${count}`);
 }
 
@@ -39,6 +43,13 @@ async function savePng(page) {
   const text = await savePicture(page);
   const blob = text && (await asPng(text));
   if (blob) download(blob, `${page.views.stories.fileName}.png`);
+}
+
+/** @param {Page} page */
+async function saveMoving(page) {
+  const text = await savePicture(page);
+  const ids = page.session?.log.steps(0, Infinity).map(({ id }) => id) || [];
+  if (text) download(new Blob([moving(text, ids)], { type: "image/svg+xml" }), `${page.views.stories.fileName}.svg`);
 }
 
 // Presentation: picture and source alone, in large letters. Its own button leads out of it, since the header is gone.
@@ -113,6 +124,7 @@ const ACTIONS = {
   direct,
   save: saveSvg,
   "save-png": savePng,
+  "save-moving": saveMoving,
   ...EXPORTS,
   help: () => /** @type {HTMLDialogElement} */ (find("help-dialog")).showModal(),
   "copy-link": copyLink,
@@ -127,6 +139,9 @@ const ACTIONS = {
   "search-whole": searchWhole,
   "make-lesson": openAuthor,
   follow,
+  "show-parting": showParting,
+  "find-blame": findBlame,
+  "take-blamed": (page) => page.pointing.takeBack(page.blame?.id),
   compare: showCompared,
 };
 

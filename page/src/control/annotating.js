@@ -6,6 +6,7 @@ import { pause } from "../element.js";
 import { shownOf } from "../picture/shown.js";
 import { standingOf } from "../waiting/standing.js";
 import { starterOf } from "./finding.js";
+import { phrase } from "../phrases.js";
 
 const WHOLE = 20000; // a log of up to this many steps is followed from its start; of a longer one what is in view
 const FOLLOWED = 300000; // a longer log is not followed at all
@@ -232,9 +233,9 @@ export class Annotating {
     const { session } = this.page;
     if (!session) return "";
     const { log, follower } = session;
-    if (follower.lost) return `From ${follower.lost} on, lines and arrows cannot be found.`;
-    if (log.length > FOLLOWED) return "Of a log of more than 300,000 steps no lines, prints and arrows are found.";
-    if (log.length > ALL_EDGES) return "Of this long log, arrows are drawn into the steps that are in view.";
+    if (follower.lost) return phrase("From {step} on, lines and arrows cannot be found.", { step: follower.lost });
+    if (log.length > FOLLOWED) return phrase("Of a log of more than {most} steps no lines, prints and arrows are found.", { most: FOLLOWED });
+    if (log.length > ALL_EDGES) return phrase("Of this long log, arrows are drawn into the steps that are in view.");
     return "";
   }
 }

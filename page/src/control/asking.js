@@ -2,8 +2,9 @@
 
 import { giverOf, lastOf, printerOf, senderOf, starterOf, stepsOfLine, stepsWith } from "./finding.js";
 import { courseOf, courseRow } from "./course.js";
-import { find, inSteps } from "../element.js";
+import { find } from "../element.js";
 import { isUnanswered } from "../engine/remote.js";
+import { phrase } from "../phrases.js";
 
 /** @typedef {import("./page.js").Page} Page */
 
@@ -39,12 +40,12 @@ function stepBehind(session, { go, variable, item, waiter, line }) {
 async function findStep(page, what) {
   const { session } = page;
   if (!session || page.hindrance) return page.say(page.hindrance, "bad");
-  if (page.past.isOn) return page.say("Steps are found from the present state: leave the past first.", "bad");
+  if (page.past.isOn) return page.say(phrase("Steps are found from the present state: leave the past first."), "bad");
   try {
     const id = await stepBehind(session, what);
     if (session !== page.session) return;
-    if (!id) return page.say("No step of the log gave this: it is a parameter, or its step is not found yet.", "bad");
-    page.say(`${id} is the step behind it: see what depends on it, or take it back.`);
+    if (!id) return page.say(phrase("No step of the log gave this: it is a parameter, or its step is not found yet."), "bad");
+    page.say(phrase("{step} is the step behind it: see what depends on it, or take it back.", { step: id }));
     await page.pointing.show(id);
     if (what.variable) await showCourse(page, session, what.variable);
   } catch (fault) {
@@ -71,7 +72,8 @@ async function showCourse(page, session, [goroutine, name]) {
  */
 export function showStepsOf(page, line) {
   if (!page.session) return;
-  return mark(page, stepsOfLine(page.session, line), `of line ${line}`);
+  const ids = stepsOfLine(page.session, line);
+  return mark(page, ids, phrase("{count} step of line {line} | {count} steps of line {line}", { count: ids.length, line: String(line) }));
 }
 
 // Marks the steps that have a text, and goes to the next of them.
@@ -88,14 +90,14 @@ export function search(page, text) {
   const { log } = page.session;
   const here = log.row(page.pointing.pinned);
   const next = ids.find((id) => log.row(id) > here) || ids[0];
-  return mark(page, ids, `with “${text.trim()}”`, next);
+  return mark(page, ids, phrase("{count} step with “{text}” | {count} steps with “{text}”", { count: ids.length, text: text.trim() }), next);
 }
 
 // Of which steps the statements and prints are read, where these are not all.
 /** @param {Page} page */
 function amongRead({ session }) {
   const read = session?.follower.notes.size || 0;
-  return !session || read >= session.log.length ? "" : `, among the ${inSteps(read)} whose statements are read`;
+  return !session || read >= session.log.length ? "" : phrase(", among the {count} whose statements are read", { count: read });
 }
 
 /**
@@ -105,7 +107,7 @@ function amongRead({ session }) {
  */
 async function mark(page, ids, what, shown = ids[ids.length - 1]) {
   page.pointing.found = new Set(ids);
-  find("found").textContent = `${inSteps(ids.length)} ${what}${amongRead(page)}`;
+  find("found").textContent = what + amongRead(page);
   if (shown) await page.pointing.show(shown);
   else page.pointing.draw();
 }

@@ -1,5 +1,10 @@
 // Breakpoints of the page: dots beside the lines of the source, which stand at statements once there is a session on the text.
 
+import { phrase, phraseKey } from "../phrases.js";
+
+const STOPS = phraseKey("A run stops before {place}.");
+const GONE = phraseKey("The breakpoint in {place} is gone.");
+
 /** @typedef {import("./page.js").Page} Page */
 
 // Sets the breakpoints of the editor, each at the first statement at its line or below.
@@ -28,9 +33,9 @@ export async function toggleBreak(page, line) {
   if (session && views.editor.text === session.source && !session.gone) {
     if (page.hindrance) return page.say(page.hindrance, "bad");
     const snapped = session.snap(line);
-    if (!snapped) return page.say("There is no statement at this line or below.", "bad");
+    if (!snapped) return page.say(phrase("There is no statement at this line or below."), "bad");
     await page.perform(`${session.breakpoints.has(snapped) ? "clear" : "break"} ${snapped}`);
-    return page.say(session.breakpoints.has(snapped) ? `A run stops before ${session.origin.where(snapped)}.` : `The breakpoint in ${session.origin.where(snapped)} is gone.`);
+    return page.say(phrase(session.breakpoints.has(snapped) ? STOPS : GONE, { place: session.origin.where(snapped) }));
   }
   const lines = new Set(views.editor.breaks);
   if (!lines.delete(line)) lines.add(line);

@@ -3,6 +3,7 @@
 
 import { button, make } from "../element.js";
 import { parseGoroutine } from "../engine/protocol.js";
+import { phrase } from "../phrases.js";
 
 const MOST = 12; // values; of more the last
 
@@ -40,7 +41,7 @@ async function valuesBackwards(remote, goroutine, name) {
     if (!reply.isOk) break;
     gone += Number(reply.words[1]);
     const variables = parseGoroutine(shown).frames.flatMap((frame) => frame.variables);
-    values.unshift({ id: reply.words[2], value: variables.find((it) => it.name === name)?.value ?? "gone" });
+    values.unshift({ id: reply.words[2], value: variables.find((it) => it.name === name)?.value ?? phrase("gone") });
   }
   return { values, gone };
 }
@@ -53,6 +54,6 @@ async function valuesBackwards(remote, goroutine, name) {
  * @param {(id: string) => void} show
  */
 export function courseRow(goroutine, name, values, show) {
-  const one = ({ id, value } = values[0], at = 0) => [at ? " → " : "", button({ class: "asked-value", title: `Show ${id}`, onclick: () => show(id) }, `${value} (${id})`)];
-  return make("p", {}, make("strong", {}, `${goroutine} ${name} over time: `), ...(values.length === MOST ? [".. "] : []), ...values.flatMap((it, at) => one(it, at)));
+  const one = ({ id, value } = values[0], at = 0) => [at ? " → " : "", button({ class: "asked-value", title: phrase("Show {step}", { step: id }), onclick: () => show(id) }, `${value} (${id})`)];
+  return make("p", {}, make("strong", {}, phrase("{goroutine} {variable} over time:", { goroutine, variable: name })), " ", ...(values.length === MOST ? [".. "] : []), ...values.flatMap((it, at) => one(it, at)));
 }

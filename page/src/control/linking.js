@@ -20,7 +20,7 @@ const LINK = "#s="; // before what a link holds
 export function askedBy(hash) {
   const words = new URLSearchParams(hash.slice(1));
   const [session, story] = [words.get("s"), words.get("story")];
-  return { session, story, isLink: session !== null || story !== null, isEmbedded: words.has("embed"), isAsking: words.has("ask"), isRepeating: words.has("repeat") };
+  return { session, story, isLink: session !== null || story !== null, isEmbedded: words.has("embed"), isAsking: words.has("ask"), isRepeating: words.has("repeat"), language: words.get("lang") || "" };
 }
 
 /**

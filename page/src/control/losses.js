@@ -2,9 +2,9 @@
 // what it is, with what to do.
 
 import { showBreaks } from "./breaks.js";
-import { inSteps } from "../element.js";
 import { isUnanswered } from "../engine/remote.js";
 import { Session } from "../session/session.js";
+import { phrase } from "../phrases.js";
 
 /** @typedef {import("./page.js").Page} Page */
 
@@ -27,8 +27,8 @@ export function lost(page, session, fault) {
  * @param {Session} session
  */
 function gone(page, session) {
-  page.views.transcript.fault(`The session is gone: ${session.gone}.`);
-  page.say(`The session is gone: ${session.gone}. What was printed and drawn is that of before.`, "bad");
+  page.views.transcript.fault(phrase("The session is gone: {reason}.", { reason: session.gone }));
+  page.say(phrase("The session is gone: {reason}. What was printed and drawn is that of before.", { reason: session.gone }), "bad");
   page.showControls();
 }
 
@@ -37,7 +37,7 @@ function gone(page, session) {
  * @param {Page} page
  * @param {string} reason
  */
-export const blinded = (page, reason) => page.say(`The session goes on, but its panes cannot be shown: ${reason}. Take steps back to see it again.`, "bad");
+export const blinded = (page, reason) => page.say(phrase("The session goes on, but its panes cannot be shown: {reason}. Take steps back to see it again.", { reason }), "bad");
 
 // The page has made an error of its own. The session goes on: everything is read of it, and drawn, anew.
 /**
@@ -47,12 +47,12 @@ export const blinded = (page, reason) => page.say(`The session goes on, but its 
 export function erred(page, fault) {
   const { session, isMending } = page;
   page.errors.push(String(fault));
-  const error = `This page has made an error of its own: ${fault}.`;
+  const error = phrase("This page has made an error of its own: {fault}.", { fault: String(fault) });
   page.views.transcript.fault(error);
-  page.say(`${error} Reload the page: it keeps your work.`, "bad");
+  page.say(phrase("{error} Reload the page: it keeps your work.", { error }), "bad");
   if (!session || session.gone || isMending) return;
   page.isMending = true;
-  const say = () => page.say(`${error} The session goes on, and was read anew. If something looks wrong, reload the page: it keeps your work.`, "bad");
+  const say = () => page.say(phrase("{error} The session goes on, and was read anew. If something looks wrong, reload the page: it keeps your work.", { error }), "bad");
   void mend(page, session).then((isMended) => isMended && say()).finally(() => (page.isMending = false));
 }
 
@@ -84,6 +84,6 @@ export async function bringBack(page) {
     await page.replay(commands);
     await fresh.setBreaks(breakpoints);
     showBreaks(page);
-    page.say(`${inSteps(fresh.log.length)} taken again.`);
+    page.say(phrase("{count} step taken again. | {count} steps taken again.", { count: fresh.log.length }));
   });
 }

@@ -7,9 +7,12 @@ import { lost } from "./losses.js";
 import { Unanswered } from "../engine/remote.js";
 import { parseGoroutine } from "../engine/protocol.js";
 import { placed } from "../session/scene.js";
+import { phrase, phraseKey } from "../phrases.js";
 
 const MOST = 2000; // steps of one move
 const LONGEST_RUN = 1000000;
+const STILL_WAITS = phraseKey("{goroutine} still waits, and nobody helped it on.");
+const GOES_ON = phraseKey("{goroutine} goes on at {place}: the others ran until then.");
 const NO_GOROUTINE = "N2"; // the code of a question about a goroutine that is not there
 
 /** @typedef {import("./page.js").Page} Page */
@@ -31,7 +34,7 @@ async function standing(session, name) {
  * @param {unknown} fault
  */
 function missed(page, session, fault) {
-  if (fault instanceof Unanswered && fault.code === NO_GOROUTINE) page.say(`${page.chosen} is not started any more.`, "bad");
+  if (fault instanceof Unanswered && fault.code === NO_GOROUTINE) page.say(phrase("{goroutine} is not started any more.", { goroutine: page.chosen }), "bad");
   else lost(page, session, fault);
 }
 
@@ -64,20 +67,20 @@ async function stepUntil(page, isThere) {
 async function stepping(page, session, isThere) {
   const { chosen, views } = page;
   for (let count = 1; count <= MOST; count++) {
-    if (!page.isMoving) return `Stopped by you after ${count - 1} steps.`;
+    if (!page.isMoving) return phrase("Stopped by you after {count} step. | Stopped by you after {count} steps.", { count: count - 1 });
     views.status.progress(count, MOST);
     const reply = await session.perform(`step ${chosen}`);
     views.transcript.add(`step ${chosen}`, reply);
     if (!reply.isOk) return page.words.reply(`step ${chosen}`, reply);
     const kind = reply.words.slice(2).join(" ");
-    if (isWait(kind)) return `${chosen} waits now: step another goroutine, or run.`;
+    if (isWait(kind)) return phrase("{goroutine} waits now: step another goroutine, or run.", { goroutine: chosen });
     if (session.log.isOver) return page.words.reply(`step ${chosen}`, reply);
     const at = await standing(session, chosen);
-    if (at.state === "done") return `${chosen} is done.`;
-    if (isThere(at)) return `${chosen} stands at ${session.origin.where(at.line || 0)}.`;
-    if (at.line && session.breakpoints.has(at.line)) return `${chosen} stopped at the breakpoint in ${session.origin.where(at.line)}.`;
+    if (at.state === "done") return phrase("{goroutine} is done.", { goroutine: chosen });
+    if (isThere(at)) return phrase("{goroutine} stands at {place}.", { goroutine: chosen, place: session.origin.where(at.line || 0) });
+    if (at.line && session.breakpoints.has(at.line)) return phrase("{goroutine} stopped at the breakpoint in {place}.", { goroutine: chosen, place: session.origin.where(at.line) });
   }
-  return `${MOST.toLocaleString("en")} steps were taken, and no end is in sight.`;
+  return phrase("{count} steps were taken, and no end is in sight.", { count: MOST });
 }
 
 // Goes on to the next statement of the frame, or out of it; what it calls is passed. One that waits is helped: the others run until it
@@ -113,7 +116,7 @@ const helpOn = (page, session) => page.moving(async () => {
   }
   await page.refresh();
   const { state, line } = await standing(session, page.chosen);
-  page.say(state === "waiting" ? `${page.chosen} still waits, and nobody helped it on.` : `${page.chosen} goes on at ${session.origin.where(line || 0)}: the others ran until then.`);
+  page.say(phrase(state === "waiting" ? STILL_WAITS : GOES_ON, { goroutine: page.chosen, place: session.origin.where(line || 0) }));
 });
 
 // Steps the chosen goroutine until it waits or is done.
@@ -129,7 +132,7 @@ export async function runToLine(page, line) {
   const { session } = page;
   if (!session || page.hindrance) return page.say(page.hindrance, "bad");
   const goal = session.snap(line);
-  if (!goal) return page.say("There is no statement at this line or below.", "bad");
+  if (!goal) return page.say(phrase("There is no statement at this line or below."), "bad");
   if (session.breakpoints.has(goal)) return page.run(LONGEST_RUN);
   session.goal = goal;
   return page.doing(async () => {

@@ -1,12 +1,12 @@
 // What the page begins with: the text of a link, the work that was kept, or a deadlock that has happened.
 
-import { counted } from "../element.js";
 import { isEmbedded } from "./embedding.js";
 import { askedBy, fromHash } from "./linking.js";
 import { kept } from "./keeping.js";
 import { openAgain } from "../panes/carrying.js";
+import { phrase, phraseKey } from "../phrases.js";
 
-const DAMAGED = "The link is damaged, and no session can be read of it: ask for it anew.";
+const DAMAGED = phraseKey("The link is damaged, and no session can be read of it: ask for it anew.");
 // The first view: the program is stuck, and a step is chosen that can be taken back.
 const FIRST = { name: "deadlock", commands: ["run 100"], chosen: "g0.2#1" };
 
@@ -31,11 +31,11 @@ export async function linked(page) {
 async function readAddress(stories) {
   const { story } = askedBy(location.hash);
   const link = story === null ? null : stories.beginning(story);
-  if (story !== null && !link) return { link, fault: `There is no story “${story}” in this page: choose one in the menu.` };
+  if (story !== null && !link) return { link, fault: phrase("There is no story “{name}” in this page: choose one in the menu.", { name: String(story) }) };
   try {
     return { link: link || (await fromHash(location.hash)), fault: "" };
   } catch {
-    return { link: null, fault: DAMAGED };
+    return { link: null, fault: phrase(DAMAGED) };
   }
 }
 
@@ -62,7 +62,7 @@ export async function openBeginning(page, shared) {
   if (!isOpen || !shared.commands.length) return;
   await page.replay(shared.commands);
   page.views.stories.catchUp(shared.commands);
-  page.say(`${counted(shared.commands.length, "command")} ${shared.commands.length === 1 ? "was" : "were"} done again.`);
+  page.say(phrase("{count} command was done again. | {count} commands were done again.", { count: shared.commands.length }));
   if (shared.chosen && page.session && page.session.log.row(shared.chosen) >= 0) await page.pointing.show(shared.chosen);
 }
 

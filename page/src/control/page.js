@@ -15,6 +15,7 @@ import { Player } from "../lessons/player.js";
 import { Prediction } from "../lessons/prediction.js";
 import { Tour } from "../lessons/tour.js";
 import { shownOf } from "../picture/shown.js";
+import { numeral, phrase } from "../phrases.js";
 
 const PORTION = 2000; // a run of more steps shows how far it is
 const LONGEST_LINE = 1000000; // bytes: the program takes no longer ones
@@ -49,6 +50,8 @@ export class Page {
     this.standing = null;
     /** @type {import("./searching.js").Searched | null} */
     this.searched = null;
+    /** @type {import("../panes/why.js").Blame | null} */
+    this.blame = null;
     /** @type {SearchedWhole | null} */
     this.searchedWhole = null;
     this.pointing = new Pointing(this);
@@ -121,8 +124,8 @@ export class Page {
     this.views.picture.channel = "";
     this.views.stories.restart();
     this.views.transcript.clear();
-    this.views.transcript.remark(`The source is ${session.carried ? "carried over" : "checked"}, and its program stands before its first step.`);
-    this.say("The program stands before its first step.");
+    this.views.transcript.remark(session.carried ? phrase("The source is carried over, and its program stands before its first step.") : phrase("The source is checked, and its program stands before its first step."));
+    this.say(phrase("The program stands before its first step."));
     await takeBreaks(this);
     await this.refresh();
     this.showPlace();
@@ -145,9 +148,9 @@ export class Page {
 
   // Why no command can be given now, or "".
   get hindrance() {
-    if (!this.session) return "There is no session yet: start one.";
-    if (this.session.gone) return `The session is gone: ${this.session.gone}. Start it anew, or bring its steps back.`;
-    return this.session.isRunning || this.isMoving ? "A run is going on: stop it first." : "";
+    if (!this.session) return phrase("There is no session yet: start one.");
+    if (this.session.gone) return phrase("The session is gone: {reason}. Start it anew, or bring its steps back.", { reason: this.session.gone });
+    return this.session.isRunning || this.isMoving ? phrase("A run is going on: stop it first.") : "";
   }
 
   // Performs one line of a command, as typed, and shows what came of it. Gives nothing where it was not performed.
@@ -158,7 +161,7 @@ export class Page {
   async perform(line) {
     const [text, session] = [line.trim(), this.session];
     if (!text) return null;
-    const hindrance = this.hindrance || (text.length > LONGEST_LINE ? "This is too long for one command: the program takes lines of up to 1,048,576 bytes." : "");
+    const hindrance = this.hindrance || (text.length > LONGEST_LINE ? phrase("This is too long for one command: the program takes lines of up to {most} bytes.", { most: 1 << 20 }) : "");
     if (hindrance || !session) {
       this.showControls();
       return this.say(hindrance, "bad"), null;
@@ -193,7 +196,7 @@ export class Page {
   async after(line, reply) {
     const [word] = wordsOf(line);
     this.say(this.words.reply(line, reply), reply.isOk ? "" : "bad");
-    if (word === "quit" && reply.isOk) this.say("The session is ended. Start it to begin anew.");
+    if (word === "quit" && reply.isOk) this.say(phrase("The session is ended. Start it to begin anew."));
     if (CHANGES.has(word)) await this.refresh();
     showBreaks(this);
     if (reply.words[1] === "B4") this.pointing.forbid(reply.words.slice(2));
@@ -234,7 +237,7 @@ export class Page {
         if (session !== this.session) return null;
         const told = reply || { lines: [], last: `ok ${taken} ${reason}`, words: ["ok", String(taken), ...reason.split(" ")], isOk: true };
         this.views.transcript.add(asked, told);
-        if (await this.refresh()) this.say(`${reply ? this.words.reply(asked, reply) : endOfRun(taken, reason, this.words.where)} ${((performance.now() - began) / 1000).toFixed(1)} s.`);
+        if (await this.refresh()) this.say(phrase("{end} {seconds} s.", { end: reply ? this.words.reply(asked, reply) : endOfRun(taken, reason, this.words.where), seconds: numeral((performance.now() - began) / 1000, 1) }));
         return told;
       } catch (fault) {
         lost(this, session, fault);
@@ -273,7 +276,7 @@ export class Page {
     const stamp = ++this.stamp;
     let isShown = false;
     this.past.leave();
-    this.standing = this.searched = null;
+    this.standing = this.searched = this.blame = null;
     try {
       const { missing } = await session.look();
       if (stamp !== this.stamp) return true;
@@ -363,7 +366,7 @@ export class Page {
     if (!session || this.hindrance) return this.say(this.hindrance, "bad");
     try {
       const ready = session.scene.clauses.get(this.chosen) || (await session.mirror.readyClauses(session.scene.goroutines)).get(this.chosen) || [];
-      if (!ready.some((it) => it.number === number)) return this.say(`${this.chosen} has no ready case ${number}.`, "bad");
+      if (!ready.some((it) => it.number === number)) return this.say(phrase("{goroutine} has no ready case {number}.", { goroutine: this.chosen, number }), "bad");
       return await this.step(this.chosen, number);
     } catch (fault) {
       lost(this, session, fault);

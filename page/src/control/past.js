@@ -3,6 +3,7 @@
 import { placeOf } from "./finding.js";
 import { isUnanswered } from "../engine/remote.js";
 import { unshown } from "../session/scene.js";
+import { phrase } from "../phrases.js";
 
 const TELLING = 200; // milliseconds between two words on how far the way to a state is done
 
@@ -49,7 +50,7 @@ export class Past {
     this.isMissed = !scene;
     if (scene) return this.show(session, scene);
     this.page.views.past.show(this.page);
-    this.page.showScene(unshown("it cannot be found"), true);
+    this.page.showScene(unshown(phrase("it cannot be found")), true);
   }
 
   // Shows the state that was looked for.
@@ -62,7 +63,7 @@ export class Past {
     this.scene = scene;
     this.found = row;
     page.views.past.show(page);
-    page.say("The panes show a past state. A command acts on the present one.");
+    page.say(phrase("The panes show a past state. A command acts on the present one."));
     page.showScene(scene, true);
     page.pointing.draw();
     if (row) page.views.picture.reveal(log.id(row - 1));
@@ -82,7 +83,7 @@ export class Past {
   back() {
     if (!this.isOn) return;
     this.leave();
-    this.page.say("The panes show the present state.");
+    this.page.say(phrase("The panes show the present state."));
     if (this.page.session) this.page.showScene(this.page.session.scene);
     this.page.pointing.draw();
   }

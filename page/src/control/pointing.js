@@ -4,6 +4,7 @@ import { field, find } from "../element.js";
 import { NOTHING_POINTED } from "../picture/picture.js";
 import { isUnanswered } from "../engine/remote.js";
 import { goroutineOf, numberOf } from "../engine/protocol.js";
+import { phrase } from "../phrases.js";
 
 const SOON = 20; // milliseconds: a step whose causes are not known by then is marked before they are
 
@@ -176,7 +177,7 @@ export class Pointing {
   }
 
   async takeBack(id = this.atHand) {
-    if (!id) return this.page.say("Point at a step first.", "bad");
+    if (!id) return this.page.say(phrase("Point at a step first."), "bad");
     this.pinned = "";
     return this.page.perform(`back ${id}`);
   }

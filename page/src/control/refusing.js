@@ -6,6 +6,7 @@ import { erred } from "./losses.js";
 import { parseFault } from "../engine/protocol.js";
 import { Refused } from "../session/session.js";
 import { SessionGone } from "../engine/remote.js";
+import { phrase } from "../phrases.js";
 
 /**
  * @param {import("./page.js").Page} page
@@ -14,16 +15,18 @@ import { SessionGone } from "../engine/remote.js";
  */
 export function refuse(page, text, fault) {
   const refusal = fault instanceof Refused && parseFault(fault.errors);
-  if (fault instanceof SessionGone) return page.say(`No session could be opened: ${fault.message}.`, "bad");
+  if (fault instanceof SessionGone) return page.say(phrase("No session could be opened: {reason}.", { reason: fault.message }), "bad");
   if (!refusal) return erred(page, fault);
   const explained = explain(page.given.refusals, text, refusal);
-  const instead = explained.instead ? ` Write instead: ${explained.instead}` : "";
-  const hint = explained.hint ? ` Hint: ${explained.hint}.` : "";
-  const message = `${explained.sentence}.${instead}${hint}`;
+  const instead = explained.instead ? ` ${phrase("Write instead: {code}", { code: explained.instead })}` : "";
+  const hint = explained.hint ? ` ${phrase("Hint: {hint}.", { hint: explained.hint })}` : "";
+  const sentence = phrase("{sentence}.", { sentence: explained.sentence });
+  const message = `${sentence}${instead}${hint}`;
+  const line = String(explained.line);
   page.refusedLine = explained.line;
   const isAtItsLine = page.views.editor.refuse(explained, message, carryButton(page, text));
-  page.views.refusal.show(explained.line ? `Refused at line ${explained.line}: ${message}` : `Refused: ${message}`, isAtItsLine);
-  const kept = page.session ? " The session is still that of the text before." : "";
-  page.views.transcript.fault(`The source in the editor is refused (${refusal.text}).${kept}`);
-  page.say(`${explained.line ? `The source is refused at line ${explained.line}: ` : "The source is refused: "}${explained.sentence}.${kept}`, "bad");
+  page.views.refusal.show(explained.line ? phrase("Refused at line {line}: {message}", { line, message }) : phrase("Refused: {message}", { message }), isAtItsLine);
+  const kept = page.session ? ` ${phrase("The session is still that of the text before.")}` : "";
+  page.views.transcript.fault(phrase("The source in the editor is refused ({code}).", { code: refusal.text }) + kept);
+  page.say((explained.line ? phrase("The source is refused at line {line}: {sentence}", { line, sentence }) : phrase("The source is refused: {sentence}", { sentence })) + kept, "bad");
 }

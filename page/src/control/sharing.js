@@ -1,14 +1,18 @@
 // What is given to others: a link, a frame for a web page, a file; and what is opened of files.
 
-import { counted, download, escapedAttribute } from "../element.js";
+import { download, escapedAttribute } from "../element.js";
 import { fromFiles, isOfSource, toFile } from "./filing.js";
+import { languageWord } from "./language.js";
 import { toHash } from "./linking.js";
 import { openAgain } from "../panes/carrying.js";
+import { phrase, phraseKey } from "../phrases.js";
 
 /** @typedef {import("./page.js").Page} Page */
 
 const FRAME = { width: 600, height: 400 };
-const OF_DISK = "It holds the whole session, but begins with the place of this page on your disk. Who has the page too puts the part from #s= on behind its address. For others press Save, and send the file: the page opens it.";
+const OF_DISK = phraseKey("It holds the whole session, but begins with the place of this page on your disk. Who has the page too puts the part from #s= on behind its address. For others press Save, and send the file: the page opens it.");
+const AN_EXERCISE = phraseKey("This is an exercise: {title}.");
+const A_STORY = phraseKey("This is a story: {title}. Next gives its commands.");
 
 /** @param {Page} page */
 export const shared = (page) => ({ ...page.work, chosen: page.pointing.pinned, theme: document.documentElement.dataset.theme || "" });
@@ -18,17 +22,20 @@ export const addressBefore = () => location.href.split("#")[0];
 
 // The address of the session as it stands.
 /** @param {Page} page */
-export const addressOf = async (page) => addressBefore() + (await toHash(shared(page)));
+export const addressOf = async (page) => addressBefore() + (await toHash(shared(page))) + languageWord();
+
+/** @param {string} address */
+export const copiedText = (address) => phrase("The link is copied: {count} letter. | The link is copied: {count} letters.", { count: address.length });
 
 /** @param {Page} page */
 export async function copyLink(page) {
   const address = await addressOf(page);
   try {
     await navigator.clipboard.writeText(address);
-    page.say(`The link is copied: ${counted(address.length, "letter")}. ${location.protocol === "file:" ? OF_DISK : "Whoever opens it sees this session."}`);
+    page.say(`${copiedText(address)} ${location.protocol === "file:" ? phrase(OF_DISK) : phrase("Whoever opens it sees this session.")}`);
   } catch {
     history.replaceState(null, "", address);
-    page.say("The link stands in the address until the next change: copy it from there.");
+    page.say(phrase("The link stands in the address until the next change: copy it from there."));
   }
 }
 
@@ -42,14 +49,14 @@ export async function frameOf(page) {
 /** @param {Page} page */
 export async function copyFrame(page) {
   const text = await frameOf(page);
-  const where = location.protocol === "file:" ? " It names this page on your disk: put the address of the page on your server in its place." : "";
+  const where = location.protocol === "file:" ? ` ${phrase("It names this page on your disk: put the address of the page on your server in its place.")}` : "";
   try {
     await navigator.clipboard.writeText(text);
-    page.say(`The frame is copied, as HTML for a web page.${where}`);
+    page.say(phrase("The frame is copied, as HTML for a web page.") + where);
   } catch {
     page.views.transcript.remark(text);
     page.views.tabs.show("commands");
-    page.say(`The frame stands among the commands, as HTML for a web page: copy it from there.${where}`);
+    page.say(phrase("The frame stands among the commands, as HTML for a web page: copy it from there.") + where);
   }
 }
 
@@ -80,10 +87,10 @@ export async function openFiles(page, files) {
  * @param {import("./filing.js").Opened} opened
  */
 async function openedText({ given, session }, { commands, lesson, version, digest }) {
-  const what = lesson ? [lesson.goal ? `This is an exercise: ${lesson.title}.` : `This is a story: ${lesson.title}. Next gives its commands.`] : [];
-  const done = commands.length ? [`${counted(commands.length, "command")} ${commands.length === 1 ? "was" : "were"} done.`] : [];
-  const from = version && version !== given.version ? [`The file was saved by version ${version}, and this is ${given.version}.`] : [];
+  const what = lesson ? [phrase(lesson.goal ? AN_EXERCISE : A_STORY, { title: lesson.title })] : [];
+  const done = commands.length ? [phrase("{count} command was done. | {count} commands were done.", { count: commands.length })] : [];
+  const from = version && version !== given.version ? [phrase("The file was saved by version {other}, and this is {version}.", { other: version, version: given.version })] : [];
   const isOf = await isOfSource(digest, session?.source || "");
-  const other = isOf ? [] : ["The script is of another source: its commands may mean something else here."];
-  return [...what, ...done, ...other, ...from].join(" ") || "The program stands before its first step.";
+  const other = isOf ? [] : [phrase("The script is of another source: its commands may mean something else here.")];
+  return [...what, ...done, ...other, ...from].join(" ") || phrase("The program stands before its first step.");
 }

@@ -4,12 +4,13 @@ import { Keys } from "./keys.js";
 import { act } from "./actions.js";
 import { toggleBreak } from "./breaks.js";
 import { field, find, tableRow } from "../element.js";
+import { phrase, phraseKey } from "../phrases.js";
 
 const IN_PICTURE = [
-  ["Arrows", "go along the steps"],
-  ["Enter", "keep a step chosen, or let it go"],
-  ["Alt+Up, Alt+Down", "exchange it with its neighbour"],
-  ["Escape", "choose none"],
+  [phraseKey("Arrows"), phraseKey("in the picture: go along the steps")],
+  [phraseKey("Enter"), phraseKey("in the picture: keep a step chosen, or let it go")],
+  [phraseKey("Alt+Up, Alt+Down"), phraseKey("in the picture: exchange it with its neighbour")],
+  [phraseKey("Escape"), phraseKey("in the picture: choose none")],
 ];
 
 /** @typedef {import("./page.js").Page} Page */
@@ -19,34 +20,34 @@ export function listenToKeys(page) {
   const focus = (/** @type {string} */ id) => find(id).focus();
   const does = (/** @type {string} */ name) => () => act(page, name);
   const table = [
-    { keys: ["s", "F11"], shown: "s, F11", says: "a step of the chosen goroutine", act: does("step") },
-    { keys: ["o", "F10"], shown: "o, F10", says: "over the statement of the chosen goroutine", act: does("over") },
-    { keys: ["a"], says: "the chosen goroutine alone, until it waits", act: does("alone") },
-    { keys: ["l"], says: "run to the line of the cursor in the source", act: does("to-line") },
-    { keys: ["r", "F5"], shown: "r, F5", says: "run", act: does("run") },
-    { keys: ["F9"], says: "set or remove a breakpoint at the line of the cursor", act: () => void toggleBreak(page, page.views.editor.line) },
-    { keys: [..."123456789"], shown: "1 to 9", says: "the case of its select with this number", act: (/** @type {string} */ key) => void page.stepClause(Number(key)) },
-    { keys: ["]"], says: "choose the next goroutine", act: () => page.nextGoroutine(1) },
-    { keys: ["["], says: "choose the goroutine before", act: () => page.nextGoroutine(-1) },
-    { keys: ["x"], says: "stop a long run", act: () => page.stop() },
-    { keys: ["u"], says: "take the last step back", act: does("undo") },
-    { keys: ["b"], says: "take the chosen step back, with all that depends on it", act: () => void page.pointing.takeBack() },
-    { keys: ["y"], says: "take again what was taken back", act: does("redo") },
-    { keys: ["k"], says: "play by itself, or stop", act: does("play") },
-    { keys: ["n"], says: "the next command of the story", act: does("next") },
-    { keys: ["q"], says: "be asked before each step of a story, or not", act: does("ask-first") },
-    { keys: [",", "."], shown: ", and .", says: "look at the state one step before, or after", act: (/** @type {string} */ key) => look(page, key === "," ? -1 : 1) },
-    { keys: ["v"], says: "presentation: picture and source alone, in large letters", act: does("present") },
-    { keys: ["p"], says: "to the picture", act: () => toPicture(page) },
-    { keys: ["f"], says: "find steps", act: () => focus("search-text") },
-    { keys: ["/"], says: "to the field of commands", act: () => toCommands(page) },
-    { keys: ["e"], says: "to the source (Ctrl+Enter starts it, Tab leaves it)", act: () => toSource(page) },
-    { keys: ["t"], says: "to the next tab of the panel", act: () => nextTab(page) },
-    { keys: ["?"], says: "this page of keys", act: () => find("help").click() },
+    { keys: ["s", "F11"], shown: "s, F11", says: phrase("a step of the chosen goroutine"), act: does("step") },
+    { keys: ["o", "F10"], shown: "o, F10", says: phrase("over the statement of the chosen goroutine"), act: does("over") },
+    { keys: ["a"], says: phrase("the chosen goroutine alone, until it waits"), act: does("alone") },
+    { keys: ["l"], says: phrase("run to the line of the cursor in the source"), act: does("to-line") },
+    { keys: ["r", "F5"], shown: "r, F5", says: phrase("run"), act: does("run") },
+    { keys: ["F9"], says: phrase("set or remove a breakpoint at the line of the cursor"), act: () => void toggleBreak(page, page.views.editor.line) },
+    { keys: [..."123456789"], shown: phrase("1 to 9"), says: phrase("the case of its select with this number"), act: (/** @type {string} */ key) => void page.stepClause(Number(key)) },
+    { keys: ["]"], says: phrase("choose the next goroutine"), act: () => page.nextGoroutine(1) },
+    { keys: ["["], says: phrase("choose the goroutine before"), act: () => page.nextGoroutine(-1) },
+    { keys: ["x"], says: phrase("stop a long run"), act: () => page.stop() },
+    { keys: ["u"], says: phrase("take the last step back"), act: does("undo") },
+    { keys: ["b"], says: phrase("take the chosen step back, with all that depends on it"), act: () => void page.pointing.takeBack() },
+    { keys: ["y"], says: phrase("take again what was taken back"), act: does("redo") },
+    { keys: ["k"], says: phrase("play by itself, or stop"), act: does("play") },
+    { keys: ["n"], says: phrase("the next command of the story"), act: does("next") },
+    { keys: ["q"], says: phrase("be asked before each step of a story, or not"), act: does("ask-first") },
+    { keys: [",", "."], shown: phrase(", and ."), says: phrase("look at the state one step before, or after"), act: (/** @type {string} */ key) => look(page, key === "," ? -1 : 1) },
+    { keys: ["v"], says: phrase("presentation: picture and source alone, in large letters"), act: does("present") },
+    { keys: ["p"], says: phrase("to the picture"), act: () => toPicture(page) },
+    { keys: ["f"], says: phrase("find steps"), act: () => focus("search-text") },
+    { keys: ["/"], says: phrase("to the field of commands"), act: () => toCommands(page) },
+    { keys: ["e"], says: phrase("to the source (Ctrl+Enter starts it, Tab leaves it)"), act: () => toSource(page) },
+    { keys: ["t"], says: phrase("to the next tab of the panel"), act: () => nextTab(page) },
+    { keys: ["?"], says: phrase("this page of keys"), act: () => find("help").click() },
   ];
   const keys = new Keys(table, () => field("letters").checked);
   keys.show(find("keys"));
-  find("keys").append(...IN_PICTURE.map(([key, says]) => tableRow("kbd", key, `in the picture: ${says}`)));
+  find("keys").append(...IN_PICTURE.map(([key, says]) => tableRow("kbd", phrase(key), phrase(says))));
 }
 
 /** @param {Page} page */

@@ -1,6 +1,7 @@
 // A session of the program in a worker of its own: asked over messages, and ended at once where need be.
 
 import { encoder } from "./protocol.js";
+import { phrase } from "../phrases.js";
 
 // The session answers no more: its program has ended, or its worker.
 export class SessionGone extends Error {}
@@ -9,7 +10,7 @@ export class SessionGone extends Error {}
 export class Unanswered extends Error {
   /** @param {string} refusal */
   constructor(refusal) {
-    super(`the session refused a question: ${refusal}`);
+    super(phrase("the session refused a question: {refusal}", { refusal }));
     this.code = refusal.split(" ")[1] || "";
   }
 }
@@ -31,7 +32,7 @@ export class RemoteSession {
     this.waiting = new Map();
     this.worker = new Worker(machine.script);
     this.worker.onmessage = ({ data }) => this.take(data);
-    this.worker.onerror = (event) => this.end(`the worker of the session ended: ${event.message}`);
+    this.worker.onerror = (event) => this.end(phrase("the worker of the session ended: {reason}", { reason: event.message }));
   }
 
   // Opens a session on a source; where the source is refused, `errors` says why.
@@ -69,9 +70,11 @@ export class RemoteSession {
 
   // Why the session is gone, in words.
   get reason() {
-    if (/rewind: memory/.test(this.errors) || /memory/i.test(this.fault)) return "there was no more memory for it";
-    if (this.fault) return `its program could not go on (${this.fault})`;
-    return this.status === 0 ? "it was ended" : `its program ended with status ${this.status}${this.errors ? ` (${this.errors.trim()})` : ""}`;
+    if (/rewind: memory/.test(this.errors) || /memory/i.test(this.fault)) return phrase("there was no more memory for it");
+    if (this.fault) return phrase("its program could not go on ({reason})", { reason: this.fault });
+    const status = String(this.status);
+    if (this.status === 0) return phrase("it was ended");
+    return this.errors ? phrase("its program ended with status {status} ({reason})", { status, reason: this.errors.trim() }) : phrase("its program ended with status {status}", { status });
   }
 
   /**

@@ -3,9 +3,9 @@
 
 import { ALL_EDGES } from "../control/annotating.js";
 import { compareNames } from "../engine/protocol.js";
-import { counted, inSteps } from "../element.js";
 import { lineOf } from "../picture/outcomes.js";
 import { shownOf } from "../picture/shown.js";
+import { phrase } from "../phrases.js";
 
 /** @typedef {import("../control/page.js").Page} Page */
 /** @typedef {import("../session/session.js").Session} Session */
@@ -47,9 +47,9 @@ async function findAll(page, session) {
 
 /** @param {Session} session */
 function lackOf({ log, follower }) {
-  if (!log.length) return "There is no step to save yet.";
-  if (log.length > ALL_EDGES) return `A run can be saved up to ${inSteps(ALL_EDGES)}: this one has ${counted(log.length, "step")}.`;
-  return follower.lost ? `From ${follower.lost} on, the facts of the steps cannot be found.` : "";
+  if (!log.length) return phrase("There is no step to save yet.");
+  if (log.length > ALL_EDGES) return phrase("A run can be saved up to {most} steps: this one has {count} steps.", { most: ALL_EDGES, count: log.length });
+  return follower.lost ? phrase("From {step} on, the facts of the steps cannot be found.", { step: follower.lost }) : "";
 }
 
 /**
@@ -88,5 +88,5 @@ export async function factsOf(page) {
   if (lack) return { run: null, lack };
   const isSame = session === page.session && session.log.version === version;
   const isWhole = isSame && session.log.steps(0, session.log.length).every(({ id }) => page.note(id)?.edges && page.note(id)?.causes);
-  return isWhole ? { run: read(page, session), lack: "" } : { run: null, lack: "The run has changed meanwhile: save it again." };
+  return isWhole ? { run: read(page, session), lack: "" } : { run: null, lack: phrase("The run has changed meanwhile: save it again.") };
 }

@@ -2,6 +2,7 @@
 
 import { compareNames } from "../engine/protocol.js";
 import { isWait, word } from "../session/edges.js";
+import { phrase } from "../phrases.js";
 
 /** @typedef {import("./facts.js").Fact} Fact */
 /** @typedef {import("./facts.js").Run} Run */
@@ -16,12 +17,12 @@ const clockText = ({ clock }) => JSON.stringify(Object.fromEntries(clock));
 const oneLine = (text) => text.replace(/\s+/g, " ").trim();
 
 /** @param {Fact} fact */
-const printedText = ({ note: { printed } }) => printed.map((text) => `prints “${text}”`).join(" ");
+const printedText = ({ note: { printed } }) => printed.map((text) => phrase("prints “{text}”", { text })).join(" ");
 
 /** @param {Fact} fact */
 function eventText(fact) {
   const { step, note, says, outcome } = fact;
-  const line = note.line ? `line ${note.line}` : "";
+  const line = note.line ? phrase("line {line}", { line: String(note.line) }) : "";
   return oneLine([step.id, says, outcome, printedText(fact), line].filter((it) => it).join("  "));
 }
 
@@ -52,10 +53,10 @@ function arrowOf({ from, to, kind }, byId, { called }) {
   const [giver, taker] = [byId.get(from), byId.get(to)];
   if (kind === "start") return { line: "-)", text: giver?.says || "go" };
   if (kind === "close") return { line: "--)", text: giver?.says || "close" };
-  if (kind !== "message" || !gives(giver)) return { line: "-->>", text: "comes before" };
+  if (kind !== "message" || !gives(giver)) return { line: "-->>", text: phrase("comes before") };
   const { sent, channel } = /** @type {Fact} */ (giver).note.over;
-  const value = sent || taker?.note.received || "a value";
-  return { line: "->>", text: channel ? `${value} over ${called(channel)}` : value };
+  const value = sent || taker?.note.received || phrase("a value");
+  return { line: "->>", text: channel ? phrase("{value} over {channel}", { value, channel: called(channel) }) : value };
 }
 
 // What is told beside the line of a goroutine: what it printed, that it waits at the end, and how the program ended.
@@ -65,7 +66,7 @@ function arrowOf({ from, to, kind }, byId, { called }) {
  */
 function notesOf(fact, last) {
   const { step, note, outcome } = fact;
-  const told = note.printed.map((text) => `prints ${text}`);
+  const told = note.printed.map((text) => phrase("prints {text}", { text }));
   if (last.get(step.goroutine) === fact && isWait(step.kind) && !note.received && !note.taken) told.push(outcome);
   if (["exit", "fault"].includes(word(step.kind))) told.push(outcome);
   return told.map((text) => `  Note over ${actor(step.goroutine)}: ${inDiagram(text)}\n`);

@@ -1,8 +1,9 @@
 // The buttons that save a run for other tools.
 
-import { counted, download } from "../element.js";
+import { download } from "../element.js";
 import { factsOf } from "./facts.js";
 import { toCsv, toMermaid, toShiviz } from "./formats.js";
+import { phrase } from "../phrases.js";
 
 const MERMAID_TEXT = 50000; // letters that Mermaid draws unless it is told otherwise
 
@@ -38,7 +39,7 @@ async function saveRun(page, name) {
   const text = await exportedRun(page, name);
   if (!text) return;
   download(new Blob([text], { type }), `${page.views.stories.fileName}.${ending}`);
-  if (name === "save-mermaid" && text.length > MERMAID_TEXT) page.say(`The diagram is saved: ${counted(text.length, "letter")}. Mermaid draws up to 50,000, unless its maxTextSize is raised.`);
+  if (name === "save-mermaid" && text.length > MERMAID_TEXT) page.say(phrase("The diagram is saved: {count} letters. Mermaid draws up to {most}, unless its maxTextSize is raised.", { count: text.length, most: MERMAID_TEXT }));
 }
 
 export const EXPORTS = Object.fromEntries(Object.keys(FORMATS).map((name) => [name, (/** @type {Page} */ page) => saveRun(page, name)]));

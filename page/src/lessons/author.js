@@ -1,16 +1,18 @@
 // The dialog in which a story or an exercise is made of the session. Its commands are recorded as they are given; here they get
 // sentences, or a task with a goal, which a click takes from the session as it stands.
 
-import { addressBefore } from "../control/sharing.js";
-import { counted, download, enable, field, find, make } from "../element.js";
+import { addressBefore, copiedText } from "../control/sharing.js";
+import { download, enable, field, find, make } from "../element.js";
 import { GOALS } from "./goals.js";
 import { fileNameOf, OWN, recorded, withTexts } from "./lesson.js";
 import { keepSettings, settings } from "../control/keeping.js";
 import { lessonFile } from "../control/filing.js";
 import { openStory } from "../control/actions.js";
 import { toHash } from "../control/linking.js";
+import { phrase } from "../phrases.js";
 
 const SHOWN = 300; // commands that get a field for a sentence
+const KEPT = 5000; // commands of a session
 const MOST = 200000; // letters of a draft that is kept over a reload
 
 /** @typedef {import("../control/page.js").Page} Page */
@@ -63,7 +65,7 @@ function keepDraft() {
  * @returns {Lesson}
  */
 function lessonOf({ source, isExercise, title, shows, task, hint, begins, told, goal }) {
-  const named = title.trim() || "a lesson";
+  const named = title.trim() || phrase("a lesson");
   if (!isExercise) return { title: named, source, shows, told, task: "", hint: "", before: [], goal: null };
   return { title: named, source, shows: "", told: [], task, hint, before: told.slice(0, begins).map(({ command }) => command), goal };
 }
@@ -71,24 +73,24 @@ function lessonOf({ source, isExercise, title, shows, task, hint, begins, told, 
 // Why it cannot be given yet, or "".
 /** @param {Draft} of */
 function lackOf({ isExercise, told, goal, begins }) {
-  if (!isExercise) return told.length ? "" : "No command is recorded yet: take some steps, and come back.";
-  if (!Object.keys(goal).length) return "Choose what solves it.";
-  return begins === told.length && !goal.safe ? "It begins where it is solved: let it begin earlier, or take the steps that solve it first." : "";
+  if (!isExercise) return told.length ? "" : phrase("No command is recorded yet: take some steps, and come back.");
+  if (!Object.keys(goal).length) return phrase("Choose what solves it.");
+  return begins === told.length && !goal.safe ? phrase("It begins where it is solved: let it begin earlier, or take the steps that solve it first.") : "";
 }
 
 /** @param {Page} page */
 function showCommands(page) {
   const { told } = /** @type {Draft} */ (draft);
   const rows = told.slice(0, SHOWN).map((one) => make("li", {}, make("input", {
-    value: one.text, "aria-label": `Told before ${one.command}`, oninput: (/** @type {any} */ { target }) => ((one.text = target.value), keepDraft()),
+    value: one.text, "aria-label": phrase("Told before {command}", { command: one.command }), oninput: (/** @type {any} */ { target }) => ((one.text = target.value), keepDraft()),
   }), make("code", {}, one.command)));
-  const more = told.length > SHOWN ? [make("li", { class: "none" }, `and ${counted(told.length - SHOWN, "command")} more`)] : [];
+  const more = told.length > SHOWN ? [make("li", { class: "none" }, phrase("and {count} command more | and {count} commands more", { count: told.length - SHOWN }))] : [];
   find("lesson-commands").replaceChildren(...rows, ...more);
-  const options = [{ command: "" }, ...told].map(({ command }, at) => make("option", { value: String(at) }, at ? `after ${counted(at, "command")}: ${command.slice(0, 60)}` : "at the first step"));
+  const options = [{ command: "" }, ...told].map(({ command }, at) => make("option", { value: String(at) }, at ? phrase("after {count} command: {command} | after {count} commands: {command}", { count: at, command: command.slice(0, 60) }) : phrase("at the first step")));
   find("lesson-begins").replaceChildren(...options);
   const now = page.session?.commands.length || 0;
   find("lesson-anew").hidden = now >= told.length;
-  find("lesson-recorded").textContent = `${counted(told.length, "command")} ${told.length === 1 ? "is" : "are"} recorded.`;
+  find("lesson-recorded").textContent = phrase("{count} command is recorded. | {count} commands are recorded.", { count: told.length });
 }
 
 /** @param {Page} page */
@@ -134,8 +136,8 @@ const dialog = () => /** @type {HTMLDialogElement} */ (find("lesson-dialog"));
 export function openAuthor(page) {
   const { session, views } = page;
   if (!session || page.hindrance) return page.say(page.hindrance, "bad");
-  if (session.source !== views.editor.text) return page.say("You changed the source: press Start first, and take the steps of the story or the exercise.", "bad");
-  if (!session.isKept) return page.say("This session has more commands than are kept: a story can have up to 5,000.", "bad");
+  if (session.source !== views.editor.text) return page.say(phrase("You changed the source: press Start first, and take the steps of the story or the exercise."), "bad");
+  if (!session.isKept) return page.say(phrase("This session has more commands than are kept: a story can have up to {most}.", { most: KEPT }), "bad");
   const known = draftOf(session.source);
   draft = known ? { ...known, told: recorded(session.commands, known.told) } : begun(page, session);
   show(page);
@@ -149,13 +151,13 @@ export const linkOf = async (lesson) => addressBefore() + (await toHash({ source
 /** @param {Page} page */
 async function copyLink(page) {
   const address = await linkOf(lessonOf(/** @type {Draft} */ (draft)));
-  const ofDisk = location.protocol === "file:" ? " It begins with the place of this page on your disk: others put the part from #s= on behind the address of theirs." : "";
+  const ofDisk = location.protocol === "file:" ? ` ${phrase("It begins with the place of this page on your disk: others put the part from #s= on behind the address of theirs.")}` : "";
   try {
     await navigator.clipboard.writeText(address);
-    find("lesson-lack").textContent = `The link is copied: ${counted(address.length, "letter")}.${ofDisk}`;
+    find("lesson-lack").textContent = copiedText(address) + ofDisk;
   } catch {
     page.views.transcript.remark(address);
-    find("lesson-lack").textContent = `The link stands among the commands: copy it from there.${ofDisk}`;
+    find("lesson-lack").textContent = phrase("The link stands among the commands: copy it from there.") + ofDisk;
   }
 }
 

@@ -1,6 +1,7 @@
 // Exercises that check themselves: what is missing until the session as it stands is what the task asks for.
 
-import { counted } from "../element.js";
+
+import { phrase, phraseKey } from "../phrases.js";
 
 /**
  * @typedef {object} State
@@ -17,10 +18,10 @@ const [NONE_BAD, BAD] = [0, 4]; // what a search came to
 
 /** @type {{[end: string]: string}} */
 const NOT_THERE = {
-  ended: "the program has not come to its end",
-  deadlock: "the program is not in a deadlock",
-  cycle: "no goroutines wait for each other in a cycle",
-  fault: "no panic has stopped the program",
+  ended: phraseKey("the program has not come to its end"),
+  deadlock: phraseKey("the program is not in a deadlock"),
+  cycle: phraseKey("no goroutines wait for each other in a cycle"),
+  fault: phraseKey("no panic has stopped the program"),
 };
 
 // What is missing of the end that is asked for, or "".
@@ -38,8 +39,8 @@ function missingEnd(end, { log, scene, cycle }) {
     ready: log.length > 0 && !log.isOver && !isStuck,
   });
   if (ends[end]) return "";
-  if (end === "ready") return log.isOver ? "the program has ended" : isStuck ? "the program is stuck" : "no step was taken";
-  return NOT_THERE[end] || "it stands otherwise";
+  if (end === "ready") return log.isOver ? phrase("the program has ended") : isStuck ? phrase("the program is stuck") : phrase("no step was taken");
+  return NOT_THERE[end] ? phrase(NOT_THERE[end]) : phrase("it stands otherwise");
 }
 
 /**
@@ -49,8 +50,8 @@ function missingEnd(end, { log, scene, cycle }) {
 function missingPrint(printed, { scene }) {
   const is = scene.console.lines.join("\n");
   if (is === printed) return "";
-  const says = (/** @type {string} */ text) => (text ? `printed “${text.replaceAll("\n", " ")}”` : "printed nothing");
-  return `it has ${says(is)}, and should have ${says(printed)}`;
+  const says = (/** @type {string} */ text) => (text ? `“${text.replaceAll("\n", " ")}”` : phrase("nothing"));
+  return phrase("it has printed {is}, and should have printed {should}", { is: says(is), should: says(printed) });
 }
 
 // How goroutines and channels stand: what a goal of a state compares. How many steps led there does not matter.
@@ -69,15 +70,16 @@ function missingState(wanted, { scene }) {
   const [is, should] = [stateOf(scene), wanted].map((rows) => new Map(rows.map((row) => [row.split(" ")[0], row])));
   const other = [...new Set([...should.keys(), ...is.keys()])].filter((name) => is.get(name) !== should.get(name));
   if (!other.length) return "";
-  const more = other.length > NAMED ? ` and ${other.length - NAMED} more` : "";
-  return `${other.slice(0, NAMED).join(", ")}${more} ${other.length === 1 ? "is" : "are"} not as it is asked`;
+  const named = other.slice(0, NAMED).join(", ");
+  const names = other.length > NAMED ? phrase("{names} and {count} more", { names: named, count: other.length - NAMED }) : named;
+  return phrase("{names} is not as it is asked | {names} are not as it is asked", { names, count: other.length });
 }
 
 /** @param {State} state */
 function missingSearch({ searched }) {
-  if (!searched) return "all schedules are not searched: press Search all schedules";
+  if (!searched) return phrase("all schedules are not searched: press Search all schedules");
   if (searched.status === NONE_BAD) return "";
-  return searched.status === BAD ? "a schedule of this program ends badly" : "the search of all schedules came to no answer";
+  return searched.status === BAD ? phrase("a schedule of this program ends badly") : phrase("the search of all schedules came to no answer");
 }
 
 /**
@@ -85,10 +87,10 @@ function missingSearch({ searched }) {
  * @param {State} state
  */
 function missingCommands({ only, most }, { commands }) {
-  if (only !== undefined && !commands.length) return "no command was given";
-  if (only !== undefined && !commands.every((line) => new RegExp(only).test(line))) return `it is to be done by ${only.includes("run") ? "steps and runs" : "steps"} alone: press Restart`;
+  if (only !== undefined && !commands.length) return phrase("no command was given");
+  if (only !== undefined && !commands.every((line) => new RegExp(only).test(line))) return only.includes("run") ? phrase("it is to be done by steps and runs alone: press Restart") : phrase("it is to be done by steps alone: press Restart");
   if (most === undefined || commands.length <= most) return "";
-  return `${counted(commands.length, "command")} were given, and ${most} ${most === 1 ? "is" : "are"} enough: undo, or choose the exercise anew`;
+  return phrase("{given} commands were given, and {count} is enough: undo, or choose the exercise anew | {given} commands were given, and {count} are enough: undo, or choose the exercise anew", { given: commands.length, count: most });
 }
 
 // What is missing, in words, which do not tell the solution; "" where the goal is reached. `commands` are those of the user since the
@@ -101,16 +103,17 @@ export function missing(goal, state) {
   const isThere = (/** @type {string} */ id) => state.log.row(id) >= 0;
   const { end, printed, kept = [], without = [], chosen, state: wanted, safe } = goal;
   const found = [
-    chosen === undefined || state.pinned === chosen ? "" : state.pinned ? "the chosen step is another one" : "no step is chosen",
-    kept.every(isThere) ? "" : "a step is not there that is to stay, or to come",
-    without.some(isThere) ? "a step is still there that has to go" : "",
+    chosen === undefined || state.pinned === chosen ? "" : state.pinned ? phrase("the chosen step is another one") : phrase("no step is chosen"),
+    kept.every(isThere) ? "" : phrase("a step is not there that is to stay, or to come"),
+    without.some(isThere) ? phrase("a step is still there that has to go") : "",
     printed === undefined ? "" : missingPrint(printed, state),
     end === undefined ? "" : missingEnd(end, state),
     wanted === undefined ? "" : missingState(wanted, state),
     safe ? missingSearch(state) : "",
     missingCommands(goal, state),
   ];
-  return found.filter((it) => it).slice(0, 2).join(", and ");
+  const [first = "", second] = found.filter((it) => it);
+  return second ? phrase("{left}, and {right}", { left: first, right: second }) : first;
 }
 
 // Whether a goal is reached.

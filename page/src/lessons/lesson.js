@@ -1,7 +1,9 @@
 // A story or an exercise of one's own: what is recorded of a session, with the sentences and the goal that somebody gave to it.
 
+import { phrase, phraseKey } from "../phrases.js";
+
 export const OWN = "lesson"; // its name in the menu
-const NO_NAME = "a lesson";
+const NO_NAME = phraseKey("a lesson");
 const ENDS = new Set(["ended", "deadlock", "cycle", "fault", "ready"]);
 
 /** @param {unknown} it */
@@ -39,7 +41,7 @@ export function checkedLesson(read) {
   const goal = checkedGoal(read.goal);
   if (!told.length && !goal) return null;
   const [title, shows, task, hint] = [read.title, read.shows, read.task, read.hint].map(textIn);
-  return { title: title.trim() || NO_NAME, source: read.source, shows, told: goal ? [] : told, task, hint, before: goal ? lines(read.before).filter(isLine) : [], goal };
+  return { title: title.trim() || phrase(NO_NAME), source: read.source, shows, told: goal ? [] : told, task, hint, before: goal ? lines(read.before).filter(isLine) : [], goal };
 }
 
 // A lesson as a story of the menu, and as an exercise.

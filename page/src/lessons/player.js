@@ -4,6 +4,7 @@
 import { field, find } from "../element.js";
 import { keepSettings, settings } from "../control/keeping.js";
 import { nextOfStory } from "../control/telling.js";
+import { phrase } from "../phrases.js";
 
 /** @typedef {import("../control/page.js").Page} Page */
 
@@ -56,7 +57,7 @@ export class Player {
 
   show() {
     const { session } = this.page;
-    find("play").textContent = this.isOn ? "Stop" : "Play";
+    find("play").textContent = this.isOn ? phrase("Stop") : phrase("Play");
     field("play").disabled = !session || Boolean(session.gone) || session.isRunning;
   }
 

@@ -3,6 +3,7 @@
 import { button, find, make } from "../element.js";
 import { nextOfStory } from "../control/telling.js";
 import { questionFor, verdictOf } from "./questions.js";
+import { phrase } from "../phrases.js";
 
 /** @typedef {import("../control/page.js").Page} Page */
 /** @typedef {import("./questions.js").Question} Question */
@@ -31,7 +32,7 @@ export class Prediction {
   toggle() {
     this.set(!this.isOn);
     const { stories, editor } = this.page.views;
-    if (this.isOn && !(stories.commands.length && stories.isOf(editor.text))) this.page.say("You are asked before each step of a story: choose one in the menu.");
+    if (this.isOn && !(stories.commands.length && stories.isOf(editor.text))) this.page.say(phrase("You are asked before each step of a story: choose one in the menu."));
   }
 
   // Another session begins to count anew.
@@ -51,14 +52,14 @@ export class Prediction {
     const key = `${stamp} ${views.stories.at}`;
     if (key === this.shown) return;
     this.shown = key;
-    find("score").textContent = this.asked ? `${this.right} of ${this.asked} right` : "";
+    find("score").textContent = this.asked ? phrase("{right} of {count} right", { right: this.right, count: this.asked }) : "";
     this.draw(session.log.isOver && /^(step|run)/.test(views.stories.next || "") ? null : questionFor(views.stories.next, session.scene));
   }
 
   /** @param {Question | null} question */
   draw(question) {
     const { next } = this.page.views.stories;
-    find("question").textContent = question ? question.text : next === undefined ? "The story has no more commands." : "Nothing is asked before the next command: press Next in story.";
+    find("question").textContent = question ? question.text : next === undefined ? phrase("The story has no more commands.") : phrase("Nothing is asked before the next command: press Next in story.");
     const parts = question ? [...(question.kind === "who" ? [] : [this.field(question)]), ...this.buttons(question)] : [];
     find("options").replaceChildren(...parts);
   }
@@ -69,13 +70,13 @@ export class Prediction {
     const onkeydown = (/** @type {KeyboardEvent} */ { key }) => {
       if (key === "Enter" && question.kind !== "end") void this.answer(question, {});
     };
-    return make("input", { id: "guess", autocomplete: "off", size: isCount ? 6 : 16, inputmode: isCount ? "numeric" : "text", "aria-label": isCount ? "How many steps" : "What is printed", placeholder: isCount ? "" : "nothing", onkeydown });
+    return make("input", { id: "guess", autocomplete: "off", size: isCount ? 6 : 16, inputmode: isCount ? "numeric" : "text", "aria-label": isCount ? phrase("How many steps") : phrase("What is printed"), placeholder: isCount ? "" : phrase("nothing"), onkeydown });
   }
 
   /** @param {Question} question */
   buttons(question) {
-    if (!question.options.length) return [button({ onclick: () => this.answer(question, {}) }, "Answer")];
-    return question.options.map((option) => button({ onclick: () => this.answer(question, { option }) }, option));
+    if (!question.options.length) return [button({ onclick: () => this.answer(question, {}) }, phrase("Answer"))];
+    return question.options.map((option) => button({ onclick: () => this.answer(question, { option }) }, question.kind === "end" ? phrase(option) : option));
   }
 
   // Gives the command of the story, and tells whether the guess was right.

@@ -1,8 +1,8 @@
 // What is asked before a command of a story, and whether the answer is right. All that decides it is told by the program: who is ready
 // before the command, its reply, and what it printed.
 
-import { inSteps } from "../element.js";
 import { wordsOf } from "../engine/protocol.js";
+import { phrase, phraseKey } from "../phrases.js";
 
 /**
  * @typedef {object} Question
@@ -16,15 +16,25 @@ import { wordsOf } from "../engine/protocol.js";
 /** @typedef {{option?: string, text?: string}} Guess */
 
 /** @type {{[reason: string]: string}} */
-const ENDS = { ended: "the program ends", stuck: "a deadlock", fault: "a panic" };
-const GOES_ON = "it can go on";
+const ENDS = { ended: phraseKey("the program ends"), stuck: phraseKey("a deadlock"), fault: phraseKey("a panic") };
+const GOES_ON = phraseKey("it can go on");
+const ENDED_SO = {
+  [ENDS.ended]: phraseKey("{printed}, and the program ends"), [ENDS.stuck]: phraseKey("{printed}, and it ends in a deadlock"),
+  [ENDS.fault]: phraseKey("{printed}, and it ends in a panic"), [GOES_ON]: phraseKey("{printed}, and then it can go on"),
+};
+const NOTHING = phraseKey("nothing");
+// Of a goroutine that was chosen: whether it can go, and who goes in the story.
+const GOES = phraseKey("{goroutine} can go, and in the story it goes");
+const OTHER_GOES = phraseKey("{goroutine} can go, and in the story {other} goes");
+const WAITS = phraseKey("{goroutine} waits, and in the story {other} goes");
+const WAITS_AT = phraseKey("{goroutine} waits at {place}, and in the story {other} goes");
 export const END_OPTIONS = [...Object.values(ENDS), GOES_ON];
 
 /** @type {{[word: string]: (id: string) => string}} */
 const COUNTS = {
-  back: (command) => `The story goes on with “${command}”. How many steps go back?`,
-  deps: (command) => `How many steps depend on ${command.split(" ")[1]}, itself among them?`,
-  causes: (command) => `On how many steps does ${command.split(" ")[1]} depend, itself among them?`,
+  back: (command) => phrase("The story goes on with “{command}”. How many steps go back?", { command }),
+  deps: (command) => phrase("How many steps depend on {step}, itself among them?", { step: command.split(" ")[1] }),
+  causes: (command) => phrase("On how many steps does {step} depend, itself among them?", { step: command.split(" ")[1] }),
 };
 
 /**
@@ -35,9 +45,9 @@ const COUNTS = {
 function aboutStep(goroutine, scene) {
   const at = scene.goroutines.find(({ name }) => name === goroutine);
   const text = at?.state === "ready" ? at.statement?.text || "" : "";
-  if (/\bprintln\s*\(/.test(text)) return { kind: "print", text: `${goroutine} goes next, at “${text.replace(/\s+/g, " ")}”. What does this step print?`, options: [] };
+  if (/\bprintln\s*\(/.test(text)) return { kind: "print", text: phrase("{goroutine} goes next, at “{statement}”. What does this step print?", { goroutine, statement: text.replace(/\s+/g, " ") }), options: [] };
   const options = scene.goroutines.filter(({ state }) => state !== "done").map(({ name }) => name);
-  return options.length > 1 ? { kind: "who", text: "Who can go next?", options, goes: goroutine } : null;
+  return options.length > 1 ? { kind: "who", text: phrase("Who can go next?"), options, goes: goroutine } : null;
 }
 
 // The question before a command, or nothing where there is none worth it.
@@ -50,7 +60,7 @@ export function questionFor(command, scene) {
   const [word, first = ""] = wordsOf(command || "");
   if (!command || scene.hidden) return null;
   if (word === "step") return aboutStep(first, scene);
-  if (word === "run") return { kind: "end", text: `The story goes on with “${command}”. What is printed by it, and how does it end?`, options: END_OPTIONS };
+  if (word === "run") return { kind: "end", text: phrase("The story goes on with “{command}”. What is printed by it, and how does it end?", { command }), options: END_OPTIONS };
   const text = COUNTS[word]?.(command);
   return text ? { kind: "count", text, options: [] } : null;
 }
@@ -59,14 +69,14 @@ export function questionFor(command, scene) {
 const plain = (text) => text.replace(/[“”"',;/]/g, " ").replace(/\s+/g, " ").trim();
 
 /** @param {string[]} printed */
-const printedText = (printed) => (printed.length ? `${printed.map((line) => `“${line}”`).join(", ")} ${printed.length === 1 ? "is" : "are"} printed` : "nothing is printed");
+const printedText = (printed) => (printed.length ? phrase("{lines} is printed | {lines} are printed", { lines: printed.map((line) => `“${line}”`).join(", "), count: printed.length }) : phrase("nothing is printed"));
 
 // Whether the lines were guessed: what separates them does not matter, and nothing is an empty answer or the word.
 /**
  * @param {string} guess
  * @param {string[]} printed
  */
-const isPrint = (guess, printed) => plain(guess === "nothing" && !printed.length ? "" : guess) === plain(printed.join(" "));
+const isPrint = (guess, printed) => plain([NOTHING, phrase(NOTHING)].includes(guess) && !printed.length ? "" : guess) === plain(printed.join(" "));
 
 /**
  * @param {Question} question
@@ -76,8 +86,9 @@ const isPrint = (guess, printed) => plain(guess === "nothing" && !printed.length
 function ofWho({ goes = "" }, { option = "" }, { before }) {
   const at = before.goroutines.find(({ name }) => name === option);
   const isRight = at?.state === "ready";
-  const story = option === goes ? "and in the story it goes" : `and in the story ${goes} goes`;
-  return { isRight, text: isRight ? `${option} can go, ${story}` : `${option} waits${at?.line ? ` at line ${at.line}` : ""}, ${story}` };
+  const fields = { goroutine: option, other: goes, place: phrase("line {line}", { line: String(at?.line || "") }) };
+  if (!isRight) return { isRight, text: phrase(at?.line ? WAITS_AT : WAITS, fields) };
+  return { isRight, text: phrase(option === goes ? GOES : OTHER_GOES, fields) };
 }
 
 /**
@@ -88,8 +99,7 @@ function ofWho({ goes = "" }, { option = "" }, { before }) {
 function ofEnd(_question, { option, text = "" }, { reply, printed }) {
   const end = ENDS[reply.words[2]] || GOES_ON;
   const isRight = option === end && isPrint(text, printed);
-  const what = end === GOES_ON ? `then ${end}` : end === ENDS.ended ? end : `it ends in ${end}`;
-  return { isRight, text: `${printedText(printed)}, and ${what}` };
+  return { isRight, text: phrase(ENDED_SO[end], { printed: printedText(printed) }) };
 }
 
 /**
@@ -104,7 +114,7 @@ const ofPrint = (_question, { text = "" }, { printed }) => ({ isRight: isPrint(t
  * @param {Guess} guess
  * @param {Outcome} outcome
  */
-const ofCount = (_question, { text = "" }, { reply }) => ({ isRight: Number(text) === Number(reply.words[1]) && /^\s*\d+\s*$/.test(text), text: `it is ${inSteps(Number(reply.words[1]))}` });
+const ofCount = (_question, { text = "" }, { reply }) => ({ isRight: Number(text) === Number(reply.words[1]) && /^\s*\d+\s*$/.test(text), text: phrase("it is {count} step | it is {count} steps", { count: Number(reply.words[1]) }) });
 
 const VERDICTS = { who: ofWho, print: ofPrint, end: ofEnd, count: ofCount };
 
@@ -117,5 +127,5 @@ const VERDICTS = { who: ofWho, print: ofPrint, end: ofEnd, count: ofCount };
 export function verdictOf(question, guess, outcome) {
   if (!outcome.reply.isOk) return null;
   const { isRight, text } = VERDICTS[question.kind](question, guess, outcome);
-  return { isRight, text: `${isRight ? "Right" : "No"}: ${text}.` };
+  return { isRight, text: isRight ? phrase("Right: {answer}.", { answer: text }) : phrase("No: {answer}.", { answer: text }) };
 }

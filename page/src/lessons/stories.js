@@ -1,13 +1,19 @@
 // The menu of stories and exercises, the commands that a story gives one after another, and what is told before each of them.
 
 import { exerciseOf, fileNameOf, OWN, storyOf } from "./lesson.js";
+import { lettersOf } from "../picture/labels.js";
 import { make } from "../element.js";
+import { phrase, phraseKey, translated } from "../phrases.js";
 
 const LETTERS = 68; // of a line, about
 const MOST_LINES = 6;
 const LINE = 1.14; // the height of a line, and what is around them, as parts of a letter
 const PADDING = 1.1;
-const LEVELS = ["", "Exercises: first steps", "Exercises: find the cause", "Exercises: make it happen"];
+const LEVELS = ["", phraseKey("Exercises: first steps"), phraseKey("Exercises: find the cause"), phraseKey("Exercises: make it happen")];
+
+// A story with its texts in the language of the page.
+/** @param {Story} story */
+const inLanguage = (story) => ({ ...story, title: translated(story.title), shows: translated(story.shows), told: story.told.map(({ text, command }) => ({ text: translated(text), command })) });
 
 export class Stories {
   /**
@@ -18,8 +24,8 @@ export class Stories {
   constructor(menu, about, given) {
     this.menu = menu;
     this.about = about;
-    this.stories = given.stories;
-    this.exercises = given.exercises;
+    this.stories = given.stories.map(inLanguage);
+    this.exercises = given.exercises.map((it) => ({ ...it, title: translated(it.title), task: translated(it.task), hint: translated(it.hint) }));
     /** @type {Story | null} */
     this.story = null;
     /** @type {Exercise | null} */
@@ -29,9 +35,9 @@ export class Stories {
     this.at = 0;
     const option = (/** @type {{name: string, title: string}} */ { name, title }) => make("option", { value: name }, title);
     const shown = this.stories.filter(({ level }) => level);
-    const groups = [...new Set(shown.map(({ level }) => level))].map((level) => make("optgroup", { label: level }, ...shown.filter((it) => it.level === level).map(option)));
-    const exercises = [1, 2, 3].map((level) => make("optgroup", { label: LEVELS[level] }, ...this.exercises.filter((it) => it.level === level).map(option)));
-    menu.append(make("option", { value: "" }, "your own program"), ...groups, ...exercises);
+    const groups = [...new Set(shown.map(({ level }) => level))].map((level) => make("optgroup", { label: translated(String(level)) }, ...shown.filter((it) => it.level === level).map(option)));
+    const exercises = [1, 2, 3].map((level) => make("optgroup", { label: phrase(LEVELS[level]) }, ...this.exercises.filter((it) => it.level === level).map(option)));
+    menu.append(make("option", { value: "" }, phrase("your own program")), ...groups, ...exercises);
   }
 
   // Turns to a story or an exercise; of another name to a program of one's own. Gives its source, or "".
@@ -135,7 +141,7 @@ export class Stories {
   linesOf() {
     const shows = this.story?.shows || "";
     const texts = this.exercise ? [`${this.exercise.task}${" ".repeat(3 * LETTERS)}`] : [`${shows} ${this.commands[0]?.text || ""}`, ...this.commands.map(({ text }) => text)];
-    const longest = Math.max(...texts.map(({ length }) => length));
+    const longest = Math.max(...texts.map(lettersOf));
     return Math.max(1, Math.min(MOST_LINES, Math.ceil(longest / LETTERS)));
   }
 
@@ -143,9 +149,9 @@ export class Stories {
     const isOver = this.at > 0 && this.at >= this.commands.length;
     const last = this.commands.slice(0, this.at + 1).filter(({ text }) => text).at(-1)?.text || "";
     this.about.parentElement?.style.setProperty("--told-height", `${this.linesOf() * LINE + PADDING}rem`);
-    const told = isOver ? "That was the story. Go on by yourself: point at steps, take them back." : last;
+    const told = isOver ? phrase("That was the story. Go on by yourself: point at steps, take them back.") : last;
     const shows = this.story?.shows || "";
     if (told && this.at) return this.about.replaceChildren(told);
-    this.about.replaceChildren(/\w$/.test(shows) && told ? `${shows}.` : shows, ...(told ? [make("span", { class: "told" }, ` ${told}`)] : []));
+    this.about.replaceChildren(/[\p{L}\p{N}]$/u.test(shows) && told ? phrase("{sentence}.", { sentence: shows }) : shows, ...(told ? [make("span", { class: "told" }, ` ${told}`)] : []));
   }
 }

@@ -5,6 +5,7 @@ import { missing } from "./exercises.js";
 import { OWN } from "./lesson.js";
 import { openStory } from "../control/actions.js";
 import { keepSettings, settings } from "../control/keeping.js";
+import { phrase } from "../phrases.js";
 
 /** @typedef {import("../control/page.js").Page} Page */
 
@@ -41,12 +42,12 @@ function showTask(page) {
   find("task-text").textContent = exercise.task;
   find("task-hint").textContent = exercise.hint;
   find("task-hint").parentElement?.toggleAttribute("hidden", !exercise.hint);
-  const verdict = lacks ? `Not yet: ${lacks}.` : "Solved.";
+  const verdict = lacks ? phrase("Not yet: {lacks}.", { lacks }) : phrase("Solved.");
   if (find("task-verdict").textContent !== verdict) find("task-verdict").textContent = verdict;
   find("task").classList.toggle("solved", !lacks);
   find("next-task").hidden = Boolean(lacks) || !nextExercise;
   find("search-whole").hidden = !exercise.goal.safe;
-  if (nextExercise) find("next-task").textContent = `Next exercise: ${nextExercise.title}`;
+  if (nextExercise) find("next-task").textContent = phrase("Next exercise: {title}", { title: nextExercise.title });
   if (!lacks) markSolved(page, exercise.name);
 }
 

@@ -3,6 +3,7 @@
 import { find } from "../element.js";
 import { openFirst } from "../control/opening.js";
 import { keepSettings, settings } from "../control/keeping.js";
+import { phrase, phraseKey } from "../phrases.js";
 
 /** @typedef {import("../control/page.js").Page} Page */
 
@@ -11,9 +12,9 @@ const TIP = 28; // from the side of a bubble to its tip
 
 // What each bubble says, and beside what it stands.
 const BUBBLES = [
-  { text: "This program ran into a deadlock: each of two goroutines waits for the other. What is red is stuck.", at: "#headline" },
-  { text: "This step took a lock too early. What goes back with it is orange, and what it is because of is blue. All else stays.", at: "#picture .pointed .kind" },
-  { text: "Take it back, and the other transfer can go on. Nothing is run anew.", at: "#back" },
+  { text: phraseKey("This program ran into a deadlock: each of two goroutines waits for the other. What is red is stuck."), at: "#headline" },
+  { text: phraseKey("This step took a lock too early. What goes back with it is orange, and what it is because of is blue. All else stays."), at: "#picture .pointed .kind" },
+  { text: phraseKey("Take it back, and the other transfer can go on. Nothing is run anew."), at: "#back" },
 ];
 
 export class Tour {
@@ -53,9 +54,9 @@ export class Tour {
     this.at = at;
     keepSettings({ toured: true });
     find("tour").hidden = false;
-    find("tour-text").textContent = BUBBLES[at].text;
-    find("tour-at").textContent = `${at + 1} of ${BUBBLES.length}`;
-    find("tour-next").textContent = at + 1 < BUBBLES.length ? "Next ›" : "Done";
+    find("tour-text").textContent = phrase(BUBBLES[at].text);
+    find("tour-at").textContent = phrase("{row} of {count}", { row: at + 1, count: BUBBLES.length });
+    find("tour-next").textContent = at + 1 < BUBBLES.length ? phrase("Next ›") : phrase("Done");
     this.place();
   }
 

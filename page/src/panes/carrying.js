@@ -1,7 +1,8 @@
 // A refused source that is ordinary Go: it is carried over, and shown beside what comes of it.
 
 import { carry, FILE } from "../engine/carry.js";
-import { button, counted, find, make } from "../element.js";
+import { button, find, make } from "../element.js";
+import { phrase } from "../phrases.js";
 
 /** @typedef {import("../control/page.js").Page} Page */
 /** @typedef {import("../engine/carry.js").Carried} Carried */
@@ -21,17 +22,17 @@ export const carriedOf = (text) => (last?.source === text ? last : null);
  * @param {Page} page
  * @param {string} text
  */
-export const carryButton = (page, text) => (ORDINARY.test(text) ? button({ class: "carry", onclick: () => carryOver(page, text) }, "Carry it over") : "");
+export const carryButton = (page, text) => (ORDINARY.test(text) ? button({ class: "carry", onclick: () => carryOver(page, text) }, phrase("Carry it over")) : "");
 
 /**
  * @param {Page} page
  * @param {string} text
  */
 async function carryOver(page, text) {
-  page.say("The source is being carried over.");
+  page.say(phrase("The source is being carried over."));
   const found = await carry("source.go", text);
-  if (!found) return page.say(`What carries Go over is not here: put ${FILE} beside this page, and try again.`, "bad");
-  page.say(found.carried ? "The source can be carried over." : "The source cannot be carried over whole.", found.carried ? "" : "bad");
+  if (!found) return page.say(phrase("What carries Go over is not here: put {file} beside this page, and try again.", { file: FILE }), "bad");
+  page.say(found.carried ? phrase("The source can be carried over.") : phrase("The source cannot be carried over whole."), found.carried ? "" : "bad");
   show(page, text, found);
 }
 
@@ -43,9 +44,9 @@ async function carryOver(page, text) {
 function show(page, text, found) {
   const kind = found.carried ? "changed" : "left";
   const notes = found.notes.filter((it) => it.kind === kind);
-  find("carry-title").textContent = found.carried ? "Carried over" : "Not carried over";
+  find("carry-title").textContent = found.carried ? phrase("Carried over") : phrase("Not carried over");
   find("carry-text").textContent = textOf(found, notes.length);
-  find("carry-notes").replaceChildren(...notes.map((it) => make("li", {}, make("b", {}, `Line ${it.line}: `), it.what, it.advice ? `; ${it.advice}` : "")));
+  find("carry-notes").replaceChildren(...notes.map((it) => make("li", {}, make("b", {}, phrase("Line {line}:", { line: String(it.line) })), " ", it.what, it.advice ? `; ${it.advice}` : "")));
   find("carry-sides").hidden = !found.carried;
   find("carry-before").textContent = text;
   find("carry-after").textContent = found.text || "";
@@ -81,6 +82,6 @@ export async function openAgain(page) {
  * @param {number} count
  */
 function textOf(found, count) {
-  if (!found.carried) return `${counted(count, "place")} of the source cannot be carried over:`;
-  return count ? `The program means the same, but for ${counted(count, "place")}:` : "The program means the same.";
+  if (!found.carried) return phrase("{count} place of the source cannot be carried over: | {count} places of the source cannot be carried over:", { count });
+  return count ? phrase("The program means the same, but for {count} place: | The program means the same, but for {count} places:", { count }) : phrase("The program means the same.");
 }

@@ -1,7 +1,8 @@
 // Two runs side by side: where the log that was kept and the log of now part, and what an order changed.
 
-import { find, inSteps, make } from "../element.js";
+import { find, make } from "../element.js";
 import { shortened } from "../picture/labels.js";
+import { phrase } from "../phrases.js";
 
 /** @typedef {{id: string, kind: string, statement?: string}} Row */
 
@@ -17,9 +18,9 @@ export function paired(one, other) {
   const there = new Map(one.map((row, at) => [row.id, at]));
   const note = (/** @type {Row} */ row, /** @type {Map<string, number>} */ rows, /** @type {Row[]} */ others, /** @type {number} */ at) => {
     const found = rows.get(row.id);
-    if (found === undefined) return "only here";
-    if (others[found].kind !== row.kind) return `otherwise: ${others[found].kind}`;
-    return found === at ? "" : `place ${found + 1} there`;
+    if (found === undefined) return phrase("only here");
+    if (others[found].kind !== row.kind) return phrase("otherwise: {kind}", { kind: others[found].kind });
+    return found === at ? "" : phrase("place {place} there", { place: found + 1 });
   };
   const rows = Array.from({ length: Math.max(one.length, other.length) }, (_, at) => ({
     left: one[at] && { ...one[at], note: note(one[at], here, other, at) },
@@ -59,14 +60,14 @@ export function showCompared(page) {
   const now = rowsOf(page);
   if (!kept || !kept.length) {
     kept = now;
-    return page.say(`These ${inSteps(now.length)} are kept: change the session, and press Compare again.`);
+    return page.say(phrase("This {count} step is kept: change the session, and press Compare again. | These {count} steps are kept: change the session, and press Compare again.", { count: now.length }));
   }
   const { same, rows } = paired(kept, now);
   const from = Math.max(0, same - 3);
   const body = rows.slice(from, from + SHOWN).map(({ left, right }, at) => make("tr", {}, make("th", {}, String(from + at + 1)), cell(left), cell(right)));
-  const parts = same === rows.length ? "The two logs are the same." : `The first ${inSteps(same)} are the same. There the logs part.`;
+  const parts = same === rows.length ? phrase("The two logs are the same.") : phrase("The first {count} step is the same. There the logs part. | The first {count} steps are the same. There the logs part.", { count: same });
   find("compared-text").textContent = parts;
-  find("compared").replaceChildren(make("tr", {}, make("th", {}, "Row"), make("th", {}, "Kept"), make("th", {}, "Now")), ...body);
+  find("compared").replaceChildren(make("tr", {}, ...[phrase("Row"), phrase("Kept"), phrase("Now")].map((it) => make("th", {}, it))), ...body);
   find("forget").onclick = () => {
     kept = null;
     /** @type {HTMLDialogElement} */ (find("compare-dialog")).close();

@@ -3,6 +3,7 @@
 import { decoder, encoder } from "../engine/protocol.js";
 import { make } from "../element.js";
 import { takeInsertions } from "./insertions.js";
+import { phrase } from "../phrases.js";
 
 const SHOWN = 2; // names beside a line; of more the first, and how many more
 
@@ -28,7 +29,7 @@ export class Editor {
       indentWithTabs: true,
       indentUnit: 4,
       lineWrapping: true,
-      screenReaderLabel: "Source text",
+      screenReaderLabel: phrase("Source text"),
       // The tab key leaves the editor, so that nobody is caught in it.
       extraKeys: { Tab: false, "Shift-Tab": false, "Ctrl-Enter": () => on.open(), "Cmd-Enter": () => on.open() },
     });
@@ -120,7 +121,7 @@ export class Editor {
    */
   place(line, text, names) {
     const onmousedown = (/** @type {Event} */ event) => event.stopPropagation();
-    return make("div", { class: "at-line", title: `here: ${names.join(", ")}. Press to mark the steps of this line`, onmousedown, onclick: () => this.on.stepsOf(line) }, text);
+    return make("div", { class: "at-line", title: phrase("here: {goroutines}. Press to mark the steps of this line", { goroutines: names.join(", ") }), onmousedown, onclick: () => this.on.stepsOf(line) }, text);
   }
 
   clearPlaces() {
@@ -149,7 +150,7 @@ export class Editor {
     this.editor.clearGutter("breaks");
     this.editor.eachLine((/** @type {any} */ line) => void this.editor.removeLineClass(line, "gutter", "has-break"));
     for (const line of lines) {
-      this.editor.setGutterMarker(line - 1, "breaks", make("div", { class: "break-mark", title: `breakpoint at line ${line}` }));
+      this.editor.setGutterMarker(line - 1, "breaks", make("div", { class: "break-mark", title: phrase("breakpoint at line {line}", { line: String(line) }) }));
       this.editor.addLineClass(line - 1, "gutter", "has-break");
     }
   }

@@ -2,6 +2,7 @@
 
 import { make } from "../element.js";
 import { calledBy, holdersOf } from "./holders.js";
+import { phrase } from "../phrases.js";
 
 const MOST = 200; // goroutines, and channels, that can be chosen
 
@@ -31,7 +32,7 @@ export class Filter {
     this.shown = shown;
     const box = (/** @type {string} */ name) => make("label", {}, make("input", { type: "checkbox", checked: !picture.hidden.has(name), onchange: () => this.toggle(name) }), ` ${name} ${page.annotating.functionOf.get(name) || ""}`);
     const order = make("input", { type: "checkbox", checked: picture.hasOrder, onchange: () => this.toggleOrder() });
-    this.host.replaceChildren(make("p", { class: "none" }, "Lanes that are shown"), ...names.map(box), this.menu(channels, page.annotating.isWhole), make("label", {}, order, " arrows of the order of waiting"));
+    this.host.replaceChildren(make("p", { class: "none" }, phrase("Lanes that are shown")), ...names.map(box), this.menu(channels, page.annotating.isWhole), make("label", {}, order, ` ${phrase("arrows of the order of waiting")}`));
   }
 
   // The channel whose operations alone are shown. Of a log that is not followed whole, it is not known which these are.
@@ -40,10 +41,10 @@ export class Filter {
    * @param {boolean} isKnown
    */
   menu(channels, isKnown) {
-    const option = ({ name, called } = { name: "", called: "all channels" }) => make("option", { value: name, selected: this.picture.channel === name }, called);
+    const option = ({ name, called } = { name: "", called: phrase("all channels") }) => make("option", { value: name, selected: this.picture.channel === name }, called);
     const menu = /** @type {HTMLSelectElement} */ (make("select", { disabled: !isKnown }, option(), ...channels.map((it) => option(it))));
     menu.addEventListener("change", () => this.choose(menu.value));
-    return make("label", {}, "Operations of ", menu);
+    return make("label", {}, `${phrase("Operations of")} `, menu);
   }
 
   // Shows or hides the lane of a goroutine.

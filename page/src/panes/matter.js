@@ -1,6 +1,8 @@
 // The row above the picture, which is always there: one sentence on how things stand, and one button for what can be done about it.
 
-import { field, find, inSteps, make } from "../element.js";
+import { field, find, make } from "../element.js";
+import { inSteps, numeral, phrase, pieces } from "../phrases.js";
+import { showWhy } from "./why.js";
 
 /** @typedef {import("../control/page.js").Page} Page */
 
@@ -29,7 +31,7 @@ export const status = {
     status.isRunning = count > 0;
     find("stop").hidden = find("run-shown").hidden = !count;
     /** @type {HTMLProgressElement} */ (find("progress")).value = count ? taken / count : 0;
-    find("taken").textContent = count ? `${taken.toLocaleString("en")} of at most ${inSteps(count)}` : "";
+    find("taken").textContent = count ? phrase("{taken} of at most {count} step | {taken} of at most {count} steps", { taken, count }) : "";
   },
   // A search goes on, of which nobody can tell how far it is.
   /** @param {number} seconds */
@@ -37,7 +39,7 @@ export const status = {
     status.isRunning = true;
     find("stop").hidden = find("run-shown").hidden = false;
     find("progress").removeAttribute("value");
-    find("taken").textContent = `all schedules are searched: ${seconds.toFixed(0)} s`;
+    find("taken").textContent = phrase("all schedules are searched: {seconds} s", { seconds: numeral(seconds) });
   },
 };
 
@@ -68,25 +70,25 @@ function buttonFor(page, state) {
 /** @param {Page} page */
 function pastText({ past: it, session }) {
   if (!it.isOn || !session || it.row > session.log.length) return "";
-  const after = it.row ? `after step ${it.row.toLocaleString("en")}, ${session.log.id(it.row - 1)},` : "before the first step";
-  const of = `the state ${after} of ${inSteps(session.log.length)}`;
-  const onTheWay = it.isMissed ? `This page cannot find ${of}.` : `On the way to ${of}: now at step ${session.follower.at.toLocaleString("en")}.`;
-  return it.found === it.row ? `This is ${of}. Nothing is changed.` : onTheWay;
+  const count = session.log.length;
+  const of = it.row ? phrase("the state after step {row}, {step}, of {count} step | the state after step {row}, {step}, of {count} steps", { row: it.row, step: session.log.id(it.row - 1), count }) : phrase("the state before the first step of {count} step | the state before the first step of {count} steps", { count });
+  const onTheWay = it.isMissed ? phrase("This page cannot find {state}.", { state: of }) : phrase("On the way to {state}: now at step {row}.", { state: of, row: session.follower.at });
+  return it.found === it.row ? phrase("This is {state}. Nothing is changed.", { state: of }) : onTheWay;
 }
 
 // What is said of a step that is chosen while the program can go on.
 /** @param {Page} page */
 function chosenText({ pointing: { about, pinned } }) {
   if (!about || !pinned) return null;
-  const causes = about.causes ? make("span", { class: "cause-word" }, `${inSteps(about.causes)} ↑`) : "no other step";
-  const goes = about.consequences ? make("span", { class: "consequence-word" }, `${inSteps(about.consequences)} ↓`) : "nothing else";
-  return [make("strong", {}, about.id), " is because of ", causes, ", and with it ", about.consequences === 1 || !about.consequences ? "goes " : "go ", goes, "."];
+  const causes = about.causes ? make("span", { class: "cause-word" }, `${inSteps(about.causes)} ↑`) : phrase("no other step");
+  const goes = about.consequences ? make("span", { class: "consequence-word" }, `${inSteps(about.consequences)} ↓`) : phrase("nothing else");
+  return pieces("{step} is because of {causes}, and with it goes {goes}. | {step} is because of {causes}, and with it go {goes}.", { step: make("strong", {}, about.id), causes, goes, count: about.consequences || 1 });
 }
 
 // A sentence whose first words, up to a colon or a full stop before a blank, say what the matter is.
 /** @param {string} text */
 export function led(text) {
-  const { index } = /[:.](?=\s)|$/.exec(text) || { index: text.length };
+  const { index } = /[:.](?=\s)|[：。]|$/.exec(text) || { index: text.length };
   return [make("strong", {}, text.slice(0, index + 1)), text.slice(index + 1)];
 }
 
@@ -120,7 +122,8 @@ export function showMatter(page) {
   const state = session && !past.isOn ? words.state(session, standing, note) : null;
   const shown = buttonFor(page, state);
   for (const id of BUTTONS) find(id).hidden = id !== shown;
-  if (shown === "follow") find("follow").textContent = `Take ${page.searched?.commands.length === 1 ? "it" : `these ${page.searched?.commands.length}`}`;
+  find("show-parting").hidden = !searchedBy(page)?.isBad || status.isRunning || Boolean(session?.gone);
+  if (shown === "follow") find("follow").textContent = phrase("Take it | Take these {count}", { count: page.searched?.commands.length || 0 });
   if (shown === "back" && pointing.about) find("back").textContent = takeBackText(pointing.about.consequences + 1);
   const isToldOff = status.tone === "bad" || Boolean(session?.gone);
   showSentence(sentenceOf(page, session && state ? words.headline(session, standing, note) : "", isToldOff));
@@ -130,21 +133,7 @@ export function showMatter(page) {
 
 // The words of the button that takes steps back.
 /** @param {number} count */
-export const takeBackText = (count) => (count === 1 ? "Take this step back" : `Take these ${count.toLocaleString("en")} back`);
-
-// All sentences on how the program stands, in a tab of their own.
-/**
- * @param {Page} page
- * @param {{tone: string, text: string} | null} state
- */
-function showWhy({ standing }, state) {
-  const lines = (state && standing?.lines) || [];
-  find("state").hidden = !state;
-  find("state").className = state?.tone || "";
-  find("state").textContent = state?.text || "";
-  find("why-lines").textContent = lines.length > 1 ? lines.join("\n") : "";
-  find("why-none").textContent = state ? "" : "The program can go on. Where it is stuck, or has ended, stands here who waits for whom.";
-}
+export const takeBackText = (count) => phrase("Take this step back | Take these {count} back", { count });
 
 export const past = {
   /** @param {Page} page */
@@ -164,7 +153,7 @@ export function showMoment({ session, past: it }) {
   slider.max = String(most);
   slider.disabled = !most || Boolean(session?.gone);
   if (!it.isOn) slider.value = slider.max;
-  const text = it.isOn ? `after step ${it.row.toLocaleString("en")} of ${most.toLocaleString("en")}` : "now";
+  const text = it.isOn ? phrase("after step {row} of {count}", { row: it.row, count: most }) : phrase("now");
   slider.setAttribute("aria-valuetext", text);
-  find("moment-text").textContent = it.isOn ? `${it.row.toLocaleString("en")} of ${most.toLocaleString("en")}` : most ? `now, ${inSteps(most)}` : "";
+  find("moment-text").textContent = it.isOn ? phrase("{row} of {count}", { row: it.row, count: most }) : most ? phrase("now, {count} step | now, {count} steps", { count: most }) : "";
 }

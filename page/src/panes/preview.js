@@ -2,6 +2,8 @@
 
 import { make } from "../element.js";
 import { calledBy, holdersOf } from "./holders.js";
+import { inRow, phrase } from "../phrases.js";
+import { stateWord } from "./panes.js";
 
 const SHOWN = 8; // changes of a kind; of more the first
 
@@ -17,7 +19,13 @@ function valuesOf({ goroutines }) {
 
 /** @param {Channel} channel */
 const channelText = ({ isClosed, items, senders, receivers }) =>
-  [isClosed ? "closed" : "open", `items ${items.join(" ") || "none"}`, ...(senders.length ? [`senders ${senders.join(" ")}`] : []), ...(receivers.length ? [`receivers ${receivers.join(" ")}`] : [])].join(", ");
+  inRow([isClosed ? phrase("closed") : phrase("open"), `${phrase("items")} ${items.join(" ") || phrase("none")}`, ...queue(phrase("senders"), senders), ...queue(phrase("receivers"), receivers)]);
+
+/**
+ * @param {string} title
+ * @param {string[]} waiters
+ */
+const queue = (title, waiters) => (waiters.length ? [`${title} ${waiters.join(" ")}`] : []);
 
 /**
  * @param {Map<string, string>} before
@@ -26,7 +34,7 @@ const channelText = ({ isClosed, items, senders, receivers }) =>
  */
 function changesOf(before, after) {
   const changed = [...before].filter(([name, was]) => after.get(name) !== was);
-  return changed.map(([name, was]) => ({ name, was, becomes: after.get(name) ?? "gone" }));
+  return changed.map(([name, was]) => ({ name, was, becomes: after.get(name) ?? phrase("gone") }));
 }
 
 // The differences of two scenes that a person cares about.
@@ -37,7 +45,7 @@ function changesOf(before, after) {
 export function differences(now, then) {
   const lines = [...now.console.lines];
   for (const line of then.console.lines) lines.splice(Math.max(0, lines.indexOf(line)), lines.includes(line) ? 1 : 0);
-  const places = (/** @type {Scene} */ { goroutines }) => new Map(goroutines.map(({ name, state, line }) => [name, line ? `${state} at line ${line}` : state]));
+  const places = (/** @type {Scene} */ { goroutines }) => new Map(goroutines.map(({ name, state, line }) => [name, line ? phrase("{state} at {place}", { state: stateWord(state), place: phrase("line {line}", { line: String(line) }) }) : stateWord(state)]));
   const holders = holdersOf([...now.goroutines, ...then.goroutines]);
   const channels = (/** @type {Scene} */ scene) => new Map(scene.channels.map((it) => [calledBy(holders, it.name), channelText(it)]));
   return {
@@ -54,7 +62,7 @@ export function differences(now, then) {
  */
 function part(title, rows) {
   if (!rows.length) return [];
-  const more = rows.length > SHOWN ? [make("li", { class: "none" }, `and ${rows.length - SHOWN} more`)] : [];
+  const more = rows.length > SHOWN ? [make("li", { class: "none" }, phrase("and {count} more", { count: rows.length - SHOWN }))] : [];
   return [make("dt", {}, title), make("dd", {}, make("ul", {}, ...rows.slice(0, SHOWN), ...more))];
 }
 
@@ -65,7 +73,7 @@ export function previewList({ lines, places, variables, channels }) {
     make("li", {}, make("b", {}, name), " ", make("s", {}, was), ` → ${becomes}`);
   return make(
     "dl", { class: "preview-list" },
-    ...part("Console", lines.map((line) => make("li", {}, make("s", {}, line)))), ...part("Goroutines", places.map(changed)),
-    ...part("Variables", variables.map(changed)), ...part("Channels", channels.map(changed)),
+    ...part(phrase("Console"), lines.map((line) => make("li", {}, make("s", {}, line)))), ...part(phrase("Goroutines"), places.map(changed)),
+    ...part(phrase("Variables"), variables.map(changed)), ...part(phrase("Channels"), channels.map(changed)),
   );
 }

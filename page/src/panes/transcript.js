@@ -2,6 +2,7 @@
 
 import { make } from "../element.js";
 import { noCommand } from "./elsewhere.js";
+import { phrase } from "../phrases.js";
 
 const LINES = 300; // of a longer reply the first are shown
 const LETTERS = 400; // of a longer line the first are shown until it is unfolded
@@ -11,8 +12,7 @@ const ENTRIES = 400; // of more entries the last are shown
 /** @param {string} text */
 function folded(text) {
   if (text.length <= LETTERS) return [text];
-  const left = (text.length - LETTERS).toLocaleString("en");
-  const rest = make("details", {}, make("summary", {}, `.. and ${left} letters more`));
+  const rest = make("details", {}, make("summary", {}, phrase(".. and {count} letter more | .. and {count} letters more", { count: text.length - LETTERS })));
   rest.addEventListener("toggle", () => rest.append(text.slice(LETTERS)), { once: true });
   return [text.slice(0, LETTERS), rest];
 }
@@ -48,7 +48,7 @@ export class Transcript {
   lines(command, reply) {
     const shown = reply.lines.slice(0, LINES).map((line) => make("div", {}, ...folded(`| ${line}`)));
     const left = reply.lines.length - shown.length;
-    if (left) shown.push(make("div", { class: "meaning" }, `.. and ${left.toLocaleString("en")} lines more`));
+    if (left) shown.push(make("div", { class: "meaning" }, phrase(".. and {count} line more | .. and {count} lines more", { count: left })));
     shown.push(make("div", { class: reply.isOk ? "" : "refused" }, ...folded(reply.last)));
     const means = reply.isOk ? "" : reply.last === "? bad command" ? noCommand(command) : this.meaning(reply.words[1]);
     if (means) shown.push(make("div", { class: "meaning" }, means));

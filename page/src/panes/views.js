@@ -14,6 +14,7 @@ import { Stories } from "../lessons/stories.js";
 import { Transcript } from "./transcript.js";
 import { enable, field, find } from "../element.js";
 import { showChannels, showConsole, showGoroutines } from "./panes.js";
+import { phrase } from "../phrases.js";
 
 /** @typedef {import("../control/page.js").Page} Page */
 
@@ -40,19 +41,20 @@ const controls = {
     const lives = Boolean(session) && !session?.gone && !isRunning;
     const goesOn = lives && !session?.log.isOver;
     for (const id of ["run", "step", "over", "alone", "to-line", "run-on", "run-it"]) enable(id, goesOn);
-    for (const id of ["step-of", "alone-of"]) find(id).textContent = page.chosen;
+    find("step-of").textContent = page.chosen;
+    find("alone-of").textContent = phrase("Run {goroutine} until it waits", { goroutine: page.chosen });
     field("count").disabled = !goesOn;
-    for (const id of ["search-all", "search-whole", "follow"]) enable(id, lives && !page.isMoving);
+    for (const id of ["search-all", "search-whole", "follow", "show-parting"]) enable(id, lives && !page.isMoving);
     enable("undo", lives && Boolean(session?.log.length));
     enable("redo", lives && Boolean(session?.undone));
-    find("redo").textContent = lives && session?.undone ? `Redo ${session.undone.toLocaleString("en")}` : "Redo";
+    find("redo").textContent = lives && session?.undone ? phrase("Redo {count}", { count: session.undone }) : phrase("Redo");
     for (const id of ["back", "bar-back"]) enable(id, lives && Boolean(page.pointing.about && page.pointing.pinned) && !page.past.isOn);
-    for (const id of ["save", "save-png", "save-shiviz", "save-mermaid", "save-csv"]) enable(id, Boolean(session?.log.length));
+    for (const id of ["save", "save-png", "save-moving", "save-shiviz", "save-mermaid", "save-csv"]) enable(id, Boolean(session?.log.length));
     showStart(page);
     showStory(page, lives);
     showGhost(page);
     page.player.show();
-    find("gone").textContent = session?.gone ? "The session is gone. Its steps can be taken again." : "";
+    find("gone").textContent = session?.gone ? phrase("The session is gone. Its steps can be taken again.") : "";
     find("picture-note").textContent = page.annotating.missing;
     showMoment(page);
   },
@@ -66,7 +68,7 @@ function showStory({ session, views: { stories, editor } }, lives) {
   const isOfStory = stories.isOf(session?.source || "");
   find("next").hidden = !stories.commands.length || !isOfStory;
   enable("next", lives && stories.next !== undefined);
-  find("next").title = stories.next ? `The story goes on with: ${stories.next.slice(0, 80)} (n)` : "The story gives no more commands";
+  find("next").title = stories.next ? phrase("The story goes on with: {command} (n)", { command: stories.next.slice(0, 80) }) : phrase("The story gives no more commands");
   const isText = stories.isOf(editor.text);
   find("about-story").hidden = !isText;
   find("told").classList.toggle("empty", !isText);

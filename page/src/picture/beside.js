@@ -1,5 +1,8 @@
 // What stands in a line of the picture while the pointer is there: the button that takes its step back, and where a dragged one goes.
 
+import { lettersOf } from "./labels.js";
+import { phrase } from "../phrases.js";
+
 const BUTTON = 24; // its least height
 
 /** @param {import("./view.js").PictureView} picture */
@@ -11,8 +14,8 @@ function takeBack(picture) {
   const { layout, view, hand, letter } = picture;
   const row = picture.row(view.pointed);
   if (row === null || hand.drag || !view.count || view.isKept || !layout) return "";
-  const text = `take back ${view.count}`;
-  const width = text.length * (letter + 0.4) + 14;
+  const text = phrase("take back {count}", { count: view.count });
+  const width = lettersOf(text) * (letter + 0.4) + 14;
   const [x, y] = [layout.lineWidth - width - 6, layout.y(row) - BUTTON / 2];
   return `<g class="take-back"><rect x="${x}" y="${y}" width="${width}" height="${BUTTON}"/><text x="${x + width / 2}" y="${y + 16}">${text}</text></g>`;
 }

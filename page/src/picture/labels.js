@@ -6,8 +6,21 @@
  */
 export function shortened(text, most) {
   const line = text.replace(/\s+/g, " ");
-  return line.length > most ? `${line.slice(0, most - 1)}…` : line;
+  if (lettersOf(line) <= most) return line;
+  let [kept, left] = ["", most - 1];
+  for (const sign of line.slice(0, most)) {
+    left -= lettersOf(sign);
+    if (left < 0) break;
+    kept += sign;
+  }
+  return `${kept}…`;
 }
+
+const WIDE = /[\u1100-\u115f\u2e80-\ua4cf\uac00-\ud7a3\uf900-\ufaff\ufe30-\ufe6f\uff00-\uff60\uffe0-\uffe6]/g;
+
+// The letters that a text takes: a sign of Chinese takes two.
+/** @param {string} text */
+export const lettersOf = (text) => text.length + (text.match(WIDE)?.length || 0);
 
 /**
  * @param {string[]} lines

@@ -93,7 +93,7 @@ function drawEdge(place, { from, to, kind }, view, near) {
   const light = view.pointed ? (side ? ` lit ${side}` : " dim") : "";
   const later = target >= view.last ? " later" : "";
   const path = edgePath(ends[0], ends[1], near, place.rowHeight, [EDGE_ROOM, place.lanes - EDGE_ROOM]);
-  return `<path class="edge ${kind}${light}${later}" marker-end="url(#tip-${side || "plain"})" d="${path}"/>`;
+  return `<path class="edge ${kind}${light}${later}" data-to="${to}" marker-end="url(#tip-${side || "plain"})" d="${path}"/>`;
 }
 const EDGE_ROOM = 3; // pixels that an edge keeps from the sides of the lanes
 

@@ -1,17 +1,20 @@
 // What the marks and edges of the picture stand for.
 
+import { escaped, lettersOf } from "./labels.js";
+import { phrase, phraseKey } from "../phrases.js";
+
 const MARK_NAMES = [
-  ["", '<circle class="mark" cx="8" cy="8" r="3.5"/>', "own statement"],
-  ["", '<circle class="mark" cx="8" cy="8" r="5.5"/>', "communication"],
-  ["wait", '<rect class="mark" x="3" y="3" width="10" height="10"/>', "begins to wait"],
-  ["wait stuck", '<rect class="mark" x="3" y="3" width="10" height="10"/>', "is stuck"],
-  ["", '<path class="mark" d="M8 2l6 6l-6 6l-6 -6z"/>', "starts, makes"],
-  ["", '<path class="mark" d="M2 4h12v8h-12z"/>', "closes"],
-  ["fault", '<path class="mark" d="M3 3l10 10m0 -10l-10 10"/>', "panic"],
-  ["", '<line class="asleep" x1="8" y1="0" x2="8" y2="16"/>', "waits"],
+  ["", '<circle class="mark" cx="8" cy="8" r="3.5"/>', phraseKey("own statement")],
+  ["", '<circle class="mark" cx="8" cy="8" r="5.5"/>', phraseKey("communication")],
+  ["wait", '<rect class="mark" x="3" y="3" width="10" height="10"/>', phraseKey("begins to wait")],
+  ["wait stuck", '<rect class="mark" x="3" y="3" width="10" height="10"/>', phraseKey("is stuck")],
+  ["", '<path class="mark" d="M8 2l6 6l-6 6l-6 -6z"/>', phraseKey("starts, makes")],
+  ["", '<path class="mark" d="M2 4h12v8h-12z"/>', phraseKey("closes")],
+  ["fault", '<path class="mark" d="M3 3l10 10m0 -10l-10 10"/>', phraseKey("panic")],
+  ["", '<line class="asleep" x1="8" y1="0" x2="8" y2="16"/>', phraseKey("waits")],
 ];
-const EDGE_NAMES = [["message", "message"], ["start", "start"], ["close", "close"], ["order", "order of waiting"]];
-const SIDE_NAMES = [["cause", "↑", "because of it"], ["consequence", "↓", "goes with it"]];
+const EDGE_NAMES = [["message", phraseKey("message")], ["start", phraseKey("start")], ["close", phraseKey("close")], ["order", phraseKey("order of waiting")]];
+const SIDE_NAMES = [["cause", "↑", phraseKey("because of it")], ["consequence", "↓", phraseKey("goes with it")]];
 const ROWS = 3;
 export const LEGEND_HEIGHT = 6 + 24 * ROWS;
 
@@ -29,7 +32,7 @@ const ENTRIES = [
 
 export function legend() {
   return ENTRIES.map(
-    ({ name, drawing, text, width }) => `<span><svg class="picture" width="${width}" height="16"><g class="${name}">${drawing}</g></svg>${text}</span>`,
+    ({ name, drawing, text, width }) => `<span><svg class="picture" width="${width}" height="16"><g class="${name}">${drawing}</g></svg>${phrase(text)}</span>`,
   ).join("");
 }
 
@@ -40,7 +43,8 @@ export function legendDrawing() {
   return ENTRIES.map(({ name, drawing, text, width }, at) => {
     const row = Math.floor(at / each);
     const x = lefts[row];
-    lefts[row] += width + 20 + text.length * 7.3;
-    return `<g class="${name}" transform="translate(${x} ${24 * row})">${drawing}</g><text class="muted" x="${x + width + 5}" y="${24 * row + 12}">${text}</text>`;
+    const said = phrase(text);
+    lefts[row] += width + 20 + lettersOf(said) * 7.3;
+    return `<g class="${name}" transform="translate(${x} ${24 * row})">${drawing}</g><text class="muted" x="${x + width + 5}" y="${24 * row + 12}">${escaped(said)}</text>`;
   }).join("");
 }

@@ -4,6 +4,8 @@ import { SIDES, classesOf, isWashed, sideOf } from "./picture.js";
 import { cycleLine, isCycleShown } from "./lanes.js";
 import { escaped } from "./labels.js";
 import { lineOf } from "./outcomes.js";
+import { phrase } from "../phrases.js";
+import { waitsForText } from "../waiting/sentences.js";
 
 /** @typedef {import("./layout.js").Place} Place */
 
@@ -31,7 +33,7 @@ function baselines({ y, rowHeight, columns }, at) {
  */
 function partsOf(place, at, step) {
   const count = place.rows.count(at);
-  if (count > 1) return { number: step.id, kind: `… ${count} own statements`, outcome: [] };
+  if (count > 1) return { number: step.id, kind: phrase("… {count} own statements", { count }), outcome: [] };
   return lineOf(step, place.notes(step.id), place);
 }
 
@@ -77,7 +79,7 @@ function drawLine(place, at, view, describe, left) {
  */
 function drawCycleWords(place, cycle, left) {
   const y = place.y(place.rows.length - 1) + place.rowHeight;
-  const words = cycle.map((name, at) => text("cycle-word", left + place.columns.statement, y + 4 + cycleLine(place) * at, `${name} waits for ${cycle[(at + 1) % cycle.length]}`));
+  const words = cycle.map((name, at) => text("cycle-word", left + place.columns.statement, y + 4 + cycleLine(place) * at, escaped(waitsForText(name, cycle[(at + 1) % cycle.length]))));
   return `<g aria-hidden="true">${words.join("")}</g>`;
 }
 

@@ -1,8 +1,9 @@
 // What a line of the picture says of a step: its number, its statement, and what came of it.
 
-import { printedText, shortened } from "./labels.js";
+import { lettersOf as widthOf, printedText, shortened } from "./labels.js";
 import { isWait, word } from "../session/edges.js";
 import { stepName } from "../engine/protocol.js";
+import { phrase } from "../phrases.js";
 
 const GIVEN = 2; // variables that a line names
 const COUNTED = 20000; // steps of a goroutine up to which it is counted what it started and made
@@ -62,14 +63,27 @@ const plain = (text, name = "muted") => (text ? [{ name, text }] : []);
  */
 const received = (note, called) => [
   { name: "received", text: `${note.part ? `${note.part} ` : ""}← ${shortened(note.received, VALUE)}` },
-  ...plain(called && `from ${called}`),
+  ...plain(called && phrase("from {channel}", { channel: called })),
 ];
 
 /**
  * @param {Note} note
  * @param {string} called
  */
-const sent = (note, called) => plain(`→ ${note.over.sent ? `${shortened(note.over.sent, VALUE)} ` : ""}${called ? `to ${called}` : ""}`.trim());
+const sent = (note, called) => plain(`→ ${note.over.sent ? `${shortened(note.over.sent, VALUE)} ` : ""}${called ? phrase("to {channel}", { channel: called }) : ""}`.trim());
+
+/**
+ * @param {string} kind
+ * @param {string} channel
+ */
+function waitText(kind, channel) {
+  if (kind === "recv-wait") return channel ? phrase("waits for {channel}", { channel }) : phrase("waits for a message");
+  if (kind === "send-wait") return channel ? phrase("waits to send to {channel}", { channel }) : phrase("waits to send");
+  return phrase("waits for a case");
+}
+
+/** @param {string} channel */
+const fromText = (channel) => channel && `← ${phrase("from {channel}", { channel })}`;
 
 /**
  * @param {string} kind
@@ -78,24 +92,32 @@ const sent = (note, called) => plain(`→ ${note.over.sent ? `${shortened(note.o
  */
 function waiting(kind, note, called) {
   if (note.received) return received(note, called);
-  if (note.taken) return plain("after a wait");
-  const what = kind === "recv-wait" ? `for ${called || "a message"}` : kind === "send-wait" ? `to send${called ? ` to ${called}` : ""}` : "for a case";
-  return plain(`waits ${what}`, "waits");
+  if (note.taken) return plain(phrase("after a wait"));
+  return plain(waitText(kind, called), "waits");
 }
+
+/** @param {string} goroutine */
+const startsText = (goroutine) => (goroutine ? phrase("starts {goroutine}", { goroutine }) : phrase("starts a goroutine"));
+
+/**
+ * @param {string} name
+ * @param {Place} place
+ */
+const makesText = (name, place) => (name ? phrase("makes {channel}", { channel: place.called(name) }) : phrase("makes a channel"));
 
 /** @type {{[kind: string]: (step: Step, note: Note, place: Place, called: string) => Part[]}} */
 const OUTCOMES = {
   hand: (_, note, __, called) => sent(note, called),
   buffer: (_, note, __, called) => sent(note, called),
-  take: (_, note, __, called) => (note.received ? received(note, called) : plain(called && `← from ${called}`)),
-  meet: (_, note, __, called) => (note.received ? received(note, called) : plain(called && `← from ${called}`)),
-  pick: (_, note, __, called) => (note.received ? received(note, called) : note.over.isSend ? sent(note, called) : plain(called && `← from ${called}`)),
-  closed: (_, __, ___, called) => plain(`← nothing: ${called || "it"} is closed`),
-  default: () => plain("no case was ready"),
-  close: (_, __, ___, called) => plain(`closes ${called || "it"}`),
-  go: (step, _, place) => plain(`starts ${givenName(place, step, ".") || "a goroutine"}`),
-  make: (step, _, place) => plain(`makes ${givenName(place, step, "/c") ? place.called(givenName(place, step, "/c")) : "a channel"}`),
-  exit: () => plain("the program ends"),
+  take: (_, note, __, called) => (note.received ? received(note, called) : plain(fromText(called))),
+  meet: (_, note, __, called) => (note.received ? received(note, called) : plain(fromText(called))),
+  pick: (_, note, __, called) => (note.received ? received(note, called) : note.over.isSend ? sent(note, called) : plain(fromText(called))),
+  closed: (_, __, ___, called) => plain(`← ${called ? phrase("nothing: {channel} is closed", { channel: called }) : phrase("nothing: it is closed")}`),
+  default: () => plain(phrase("no case was ready")),
+  close: (_, __, ___, called) => plain(called ? phrase("closes {channel}", { channel: called }) : phrase("closes it")),
+  go: (step, _, place) => plain(startsText(givenName(place, step, "."))),
+  make: (step, _, place) => plain(makesText(givenName(place, step, "/c"), place)),
+  exit: () => plain(phrase("the program ends")),
 };
 
 /**
@@ -142,7 +164,7 @@ export function lineOf(step, note, place) {
 }
 
 /** @param {Part[]} parts */
-const lettersIn = (parts) => parts.reduce((sum, { text }) => sum + text.length + 1, -1);
+const lettersIn = (parts) => parts.reduce((sum, { text }) => sum + widthOf(text) + 1, -1);
 
 // Parts that have at most so many letters together, with a blank between two. Where that is too few, a channel goes by its variable alone.
 /**
@@ -156,7 +178,7 @@ function cut(parts, most) {
   for (const { name, text } of fitting) {
     if (left < 4) break;
     kept.push({ name, text: shortened(text, left) });
-    left -= text.length + 1;
+    left -= widthOf(text) + 1;
   }
   return kept;
 }
@@ -172,7 +194,7 @@ export function lettersOf(place, from, to) {
   for (let at = from; at < Math.min(to, place.rows.length); at++) {
     const step = place.log.step(place.rows.at(at));
     const { kind, outcome } = lineOf(step, place.notes(step.id), place);
-    needed.statement = Math.max(needed.statement, kind.length);
+    needed.statement = Math.max(needed.statement, widthOf(kind));
     needed.outcome = Math.max(needed.outcome, lettersIn(outcome) + 1);
   }
   return needed;

@@ -54,6 +54,13 @@ export const DEFINITIONS = `<defs>${TIPS.map(
  orient="auto-start-reverse" markerUnits="userSpaceOnUse"><path d="M0 0L8 4L0 8z"/></marker>`,
 ).join("")}</defs>`;
 
+// A drawing with tips of arrows of its own, which are there also while another picture is not shown.
+/**
+ * @param {string} name
+ * @param {string} drawing
+ */
+export const withOwnTips = (name, drawing) => (DEFINITIONS + drawing).replaceAll('id="tip-', `id="${name}-`).replaceAll("url(#tip-", `url(#${name}-`);
+
 export const SIDES = /** @type {{[side: string]: string}} */ ({ cause: "↑", consequence: "↓" });
 
 // What a step is to the one that is pointed at.

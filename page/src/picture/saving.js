@@ -4,6 +4,7 @@ import { ALL_EDGES } from "../control/annotating.js";
 import { Rows } from "./rows.js";
 import { shownOf } from "./shown.js";
 import { savedPicture } from "./saved.js";
+import { phrase } from "../phrases.js";
 
 const PARTS = [[20000, 800], [Infinity, 60]]; // up to so many steps of a longer log, how many above and below the view are saved
 
@@ -30,7 +31,7 @@ export async function savePicture(page, { title = "", hasLegend = true } = {}) {
   const shown = { ...shownOf(page), log, rows };
   const name = views.stories.name.replaceAll("_", " ");
   return savedPicture(shown, edges, picture.view, {
-    title: title || `Steps of ${name}, a lane for each goroutine`, rowHeight: picture.rowHeight, from, to: isWhole ? rows.length : to, hasLegend,
+    title: title || phrase("Steps of {name}, a lane for each goroutine", { name }), rowHeight: picture.rowHeight, from, to: isWhole ? rows.length : to, hasLegend,
     part: partText(isSplit, from, to, log.length, follower.lost),
   });
 }
@@ -44,7 +45,6 @@ export async function savePicture(page, { title = "", hasLegend = true } = {}) {
  */
 function partText(isSplit, from, to, count, lost) {
   if (!isSplit) return "";
-  const words = (/** @type {number} */ it) => it.toLocaleString("en");
-  if (lost) return `From ${lost} on, lines and arrows are missing`;
-  return `Steps ${words(from + 1)} to ${words(to)} of ${words(count)}, with the arrows between them`;
+  if (lost) return phrase("From {step} on, lines and arrows are missing", { step: lost });
+  return phrase("Steps {from} to {to} of {count}, with the arrows between them", { from: from + 1, to, count });
 }

@@ -2,6 +2,7 @@
 // down alone, beside as much of the lanes as is in view.
 
 import { make } from "../element.js";
+import { phrase } from "../phrases.js";
 
 const NAMESPACE = "http://www.w3.org/2000/svg";
 
@@ -32,7 +33,7 @@ export function makeSheet(host, definitions) {
   const lines = svg("picture lines", whole);
   const names = svg("picture names", whole);
   names.setAttribute("aria-hidden", "true");
-  const heads = make("div", { class: "heads", "aria-hidden": "true" }, make("span", {}, "step"), make("span", {}, "statement"), make("span", {}, "what came of it"));
+  const heads = make("div", { class: "heads", "aria-hidden": "true" }, ...[phrase("step"), phrase("statement"), phrase("what came of it")].map((it) => make("span", {}, it)));
   whole.append(heads);
   return { whole, graph, drawn: /** @type {Element} */ (graph.querySelector(".drawn")), lines, names, heads };
 }

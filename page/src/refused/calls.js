@@ -1,8 +1,9 @@
 // Reads the calls in a source that the parser accepts, and finds what the checker refuses in them.
 
 import { Expressions, isNegative } from "./expressions.js";
-import { counted, ofGiven } from "./reader.js";
+import { ofGiven } from "./reader.js";
 import { PREDECLARED, TYPES, directionOf, elementOf, goValue, isChannel, mayBe } from "./values.js";
+import { phrase } from "../phrases.js";
 
 const NO_VALUE = new Set(["close", "println"]);
 const CALLABLE = new Set(["len", "cap", ...NO_VALUE]);
@@ -103,7 +104,7 @@ export class Calls extends Expressions {
    */
   checkArguments(number, { name, parameters, heading }, values) {
     if (parameters.length !== values.length) {
-      this.fault("C4", "arguments", number, this.number - 1, { name, wanted: counted(parameters.length, "argument"), given: ofGiven(values.length), heading });
+      this.fault("C4", "arguments", number, this.number - 1, { name, wanted: phrase("{count} argument | {count} arguments", { count: parameters.length }), given: ofGiven(values.length), heading });
     }
     values.slice(0, parameters.length).forEach((value, at) => {
       const [parameter, wanted] = parameters[at];

@@ -1,6 +1,7 @@
 // What a sentence of a refusal may name besides the groups of its form.
 
 import { openBrackets } from "./tokens.js";
+import { phrase } from "../phrases.js";
 
 const ESCAPES = new Map(Object.entries({ n: 10, t: 9, r: 13, a: 7, b: 8, f: 12, v: 11, "\\": 92, "'": 39 }));
 const NEAR = 20; // tokens after a place in which a heading may go on
@@ -57,7 +58,7 @@ export function around(tokens, number, lines) {
   const { text, line } = tokens[number];
   return {
     word: text, ...(innermost && { opening: innermost.text, opening_line: String(innermost.line) }),
-    closing: ")".repeat(parentheses), braces: "}".repeat(braces), missing: braces === 1 ? "a } is missing" : `${braces} } are missing`,
+    closing: ")".repeat(parentheses), braces: "}".repeat(braces), missing: phrase("a } is missing | {count} } are missing", { count: braces }),
     ...functionAround(tokens, number), here: (lines[line - 1] || "").split("//")[0].trim(),
   };
 }

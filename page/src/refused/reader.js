@@ -3,6 +3,7 @@
 import { PREDECLARED, TYPES, channelOf, isChannel } from "./values.js";
 import { textOf } from "./tokens.js";
 import { mostLike } from "./similar.js";
+import { phrase } from "../phrases.js";
 
 const FUNCTIONS = ["len", "cap", "make", "close", "println"];
 const MEASURES = new Set(["len", "cap", "close"]);
@@ -117,7 +118,7 @@ export class Reader {
   // The type of a value, for a sentence.
   /** @param {GoValue} value */
   kind({ kind, own }) {
-    return kind === "nil" ? "nil" : own || "of another type";
+    return kind === "nil" ? "nil" : own || phrase("of another type");
   }
 
   // A value of the wrong type.
@@ -245,15 +246,8 @@ export class Reader {
 
 // Values of a type, in a sentence.
 /** @param {string} wanted */
-export const plainly = (wanted) => (wanted === "bool" ? "truth values" : "numbers");
+export const plainly = (wanted) => (wanted === "bool" ? phrase("truth values") : phrase("numbers"));
 
 // How many arguments are given, in a sentence.
 /** @param {number} count */
-export const ofGiven = (count) => `${count || "none"} ${count < 2 ? "is" : "are"} given`;
-
-// A count of things, in a sentence.
-/**
- * @param {number} count
- * @param {string} what
- */
-export const counted = (count, what) => `${count} ${what}${count === 1 ? "" : "s"}`;
+export const ofGiven = (count) => (count ? phrase("{count} is given | {count} are given", { count }) : phrase("none is given"));

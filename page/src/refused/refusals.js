@@ -5,6 +5,7 @@ import { faultAt } from "./file.js";
 import { inText, inTokens, placed, tokenAt } from "./matching.js";
 import { goTokens } from "./tokens.js";
 import { Statements } from "../session/statements.js";
+import { translated } from "../phrases.js";
 
 const LONGEST = 40; // letters of a field in a sentence
 
@@ -82,7 +83,7 @@ function statementAt(source, { line, column }) {
 export function explain(table, source, refusal) {
   const { code, line, column } = refusal;
   const { meaning, forms } = table[code] || { meaning: refusal.text, forms: [] };
-  const plain = { code, line, column, length: 1, sentence: line ? meaning : forms[0]?.sentence || meaning, instead: "", hint: "", whole: null };
+  const plain = { code, line, column, length: 1, sentence: translated(line ? meaning : forms[0]?.sentence || meaning), instead: "", hint: "", whole: null };
   if (!line) return plain;
   const text = (source.split("\n")[line - 1] || "").replace(/\r+$/, "");
   const isStatement = code.startsWith("C");
@@ -90,9 +91,9 @@ export function explain(table, source, refusal) {
   const found = code.startsWith("S") ? inText(forms, text, refusal) : inSource();
   if (!found) return plain;
   const { form, fields, length } = found;
-  const sentence = filled(form?.sentence, fields, LONGEST);
+  const sentence = filled(translated(form?.sentence || ""), fields, LONGEST);
   const instead = sentence && filled(form?.instead, fields);
-  const hint = sentence && filled(form?.hint, fields, LONGEST);
+  const hint = sentence && filled(translated(form?.hint || ""), fields, LONGEST);
   const whole = isStatement ? statementAt(source, refusal) : null;
-  return { code, line: found.line, column: found.column, length, sentence: sentence || meaning, instead, hint, whole };
+  return { code, line: found.line, column: found.column, length, sentence: sentence || translated(meaning), instead, hint, whole };
 }

@@ -3,8 +3,8 @@
 
 import { Calls } from "./calls.js";
 import { isNegative } from "./expressions.js";
-import { counted } from "./reader.js";
 import { PREDECLARED, SHIFTS, directionOf, elementOf, goValue, isChannel, mayBe } from "./values.js";
+import { phrase } from "../phrases.js";
 
 const ASSIGNING = new Set(["+=", "-=", "*=", "/=", "%=", "&=", "|=", "^=", "&^=", "<<=", ">>="]);
 const CHANGING = new Set([...ASSIGNING, "++", "--"]);
@@ -182,7 +182,7 @@ export class SimpleStatements extends Calls {
     if (names.length === 2 && isReceived) return false;
     const form = isReceived ? "three_received" : values.length === 1 && this.isOfCall(values[0]) ? "names_of_a_call" : "names_and_values";
     this.fault("C4", form, names[0], values[values.length - 1].last, {
-      names: counted(names.length, "name"), values: counted(values.length, "value"), name: this.tokens[values[0].first].text, channel: this.text(values[0]),
+      names: phrase("{count} name | {count} names", { count: names.length }), values: phrase("{count} value | {count} values", { count: values.length }), name: this.tokens[values[0].first].text, channel: this.text(values[0]),
     });
     return false;
   }
@@ -229,7 +229,7 @@ export class SimpleStatements extends Calls {
     const form = isCase ? "case_blank" : texts.every((text) => text === "_") ? "blank_defined" : ofNames;
     const { line = 0, own: type = "" } = block.get(other || texts[0]) || {};
     const fields = {
-      names: texts.join(", "), values: this.of(values[0].first, values[values.length - 1].last), are: texts.length === 1 ? "is" : "are",
+      names: texts.join(", "), values: this.of(values[0].first, values[values.length - 1].last), are: phrase("is | are", { count: texts.length }),
       name: other || "", type, line: String(line),
     };
     this.fault("C10", form, names[0], isCase ? values[values.length - 1].last : names[names.length - 1], fields);

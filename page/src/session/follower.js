@@ -9,6 +9,7 @@ import { readScene } from "./scene.js";
 import { printsOf } from "./statements.js";
 import { caseOf, isReceive, metCase, operationOf, receivedPart } from "./messages.js";
 import { channelsOf } from "./operations.js";
+import { phrase } from "../phrases.js";
 
 const AT_ONCE = 2000; // steps taken, or undone, in one exchange without questions
 const ASKED = 200; // and with questions
@@ -66,7 +67,7 @@ export class Follower {
   }
 
   async session() {
-    if (this.isClosed) throw new SessionGone("it was ended");
+    if (this.isClosed) throw new SessionGone(phrase("it was ended"));
     if (!this.remote || this.remote.status !== null) {
       this.remote = await openExpanded(this.machine, this.statements);
       this.at = 0;

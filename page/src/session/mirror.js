@@ -4,6 +4,7 @@
 import { RemoteSession, SessionGone, Unanswered } from "../engine/remote.js";
 import { readScene } from "./scene.js";
 import { goroutineOf, listedSteps, wordsOf } from "../engine/protocol.js";
+import { phrase } from "../phrases.js";
 
 const AT_ONCE = 2000; // steps that are taken in one exchange
 const CHOOSERS = 50; // of more goroutines at a select, the clauses of the first are tried
@@ -80,7 +81,7 @@ export class Mirror {
   }
 
   get session() {
-    if (!this.remote) throw new SessionGone("it was ended");
+    if (!this.remote) throw new SessionGone(phrase("it was ended"));
     return this.remote;
   }
 
@@ -154,7 +155,7 @@ export class Mirror {
     this.isBehind = false;
     await this.take(this.log.steps(0, this.log.length));
     await this.session.askAll([...this.lines].map((line) => `break ${line}`));
-    if (this.isBehind) throw new SessionGone("its steps could not be taken again");
+    if (this.isBehind) throw new SessionGone(phrase("its steps could not be taken again"));
     this.isBehind = missed !== this.missed;
   }
 

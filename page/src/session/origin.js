@@ -1,6 +1,8 @@
 // From which lines of the user's source those of the program come that is run: the same ones, or, where real Go was carried over, those
 // that the carrying tells.
 
+import { phrase } from "../phrases.js";
+
 const FIRST = { line: 0, source: 0 };
 
 /** @typedef {{line: number, source: number}} Place a line of the program that is run, and the line of the source from which it comes */
@@ -44,7 +46,7 @@ export class Origin {
   /** @param {number} line */
   where(line) {
     const source = this.lineOf(line);
-    return source ? `line ${source}` : `line ${line} of what is run`;
+    return source ? phrase("line {line}", { line: String(source) }) : phrase("line {line} of what is run", { line: String(line) });
   }
 
   // A note with the place in the user's source.

@@ -5,6 +5,7 @@
 // source. `at` tells what is done before what: operands before what uses them, and an assignment or a send behind all of its part.
 
 import { Walk } from "./walk.js";
+import { phrase } from "../phrases.js";
 
 const LAST = 0.25;
 const TINY = 1e-7;
@@ -213,7 +214,7 @@ export class Program {
   // Where a line stands, in words: in the user's source, where it comes from there.
   /** @param {number} line */
   where(line) {
-    return this.origin ? this.origin.where(line) : `line ${line}`;
+    return this.origin ? this.origin.where(line) : phrase("line {line}", { line: String(line) });
   }
 
   // The lines of the statements of one function that call another one.

@@ -2,18 +2,31 @@
 
 import { DRAIN } from "./endings.js";
 import { NIL, holderOf, ownersOf } from "./waits.js";
+import { either, inRow, phrase, phraseKey, translated } from "../phrases.js";
 
 const MAX_WAITS = 20;
 const MAX_NAMES = 8;
 const MAX_ITEMS = 4;
 const MAX_CALLERS = 5;
 const INDENT = "    ";
+// What is done to a channel, by the verb of who waits or may serve.
 /** @type {{[verb: string]: string}} */
-const DOES = { send: "send to", receive: "receive from", close: "close" };
+const DOES = { send: phraseKey("send to {channel}"), receive: phraseKey("receive from {channel}"), close: phraseKey("close {channel}") };
 /** @type {{[verb: string]: string}} */
-const SERVES = { send: "receive from", receive: "send to" };
+const DOES_NIL = { send: phraseKey("send to a nil channel"), receive: phraseKey("receive from a nil channel"), close: phraseKey("close a nil channel") };
 /** @type {{[verb: string]: string}} */
-const SERVED = { send: "send to it", receive: "receive from it", close: "close it" };
+const SERVED = { send: phraseKey("send to it"), receive: phraseKey("receive from it"), close: phraseKey("close it") };
+// What is said of who may serve those that wait to send, and to receive.
+const LAST = { send: phraseKey("{goroutine} was the last one to receive from {channel}, at {place}"), receive: phraseKey("{goroutine} was the last one to send to {channel}, at {place}") };
+const BEHIND = {
+  send: phraseKey("only {goroutines} would receive from {channel}, after a send of its own that waits too"),
+  receive: phraseKey("only {goroutines} would send to {channel}, after a receive of its own that waits too"),
+};
+const MAY = { send: phraseKey("{goroutine}, which may still receive from it,"), receive: phraseKey("{goroutine}, which may still send to it,") };
+const NEVER = { send: phraseKey("{goroutine}, which never will receive from it again,"), receive: phraseKey("{goroutine}, which never will send to it again,") };
+
+const WAITS = { toDo: phraseKey("{goroutine} waits to {wishes} at {place}"), forEver: phraseKey("{goroutine} waits for ever at {place}") };
+const WOULD_WAIT = { toDo: phraseKey("{goroutine} would wait for ever to {wishes} at {place}"), forEver: phraseKey("{goroutine} would wait for ever at {place}") };
 
 /** @typedef {import("./waits.js").Wait} Wait */
 /** @typedef {import("./waits.js").Wish} Wish */
@@ -45,40 +58,42 @@ export class Sentences {
   ended(fates, waits) {
     const told = fates.slice(0, MAX_WAITS).flatMap((fate) => {
       const wait = waits.find(({ goroutine }) => goroutine === fate.goroutine);
-      return wait ? this.wait(wait, "would wait for ever") : [this.fate(fate)];
+      return wait ? this.wait(wait, WOULD_WAIT) : [this.fate(fate)];
     });
     return [endedText(fates.length, fates.filter(({ ending }) => ending === "wait").length), ...told, ...more(fates.length - MAX_WAITS)];
   }
 
   /** @param {import("./endings.js").Fate} fate */
   fate({ goroutine, ending, line, fault }) {
-    if (ending === "fault") return `${goroutine} would stop the program at ${this.at(line)} (${this.given.go[fault] || `a limit of Rewind: ${this.given.faults[fault] || fault}`})`;
-    if (ending === "go on") return `${goroutine} would still go on after ${DRAIN.toLocaleString("en")} steps, at ${this.at(line)}`;
-    return `${goroutine} would end`;
+    const fields = { goroutine, place: this.at(line) };
+    const limit = () => phrase("a limit of Rewind: {fault}", { fault: translated(this.given.faults[fault] || fault) });
+    if (ending === "fault") return phrase("{goroutine} would stop the program at {place} ({fault})", { ...fields, fault: this.given.go[fault] || limit() });
+    if (ending === "go on") return phrase("{goroutine} would still go on after {count} steps, at {place}", { ...fields, count: DRAIN });
+    return phrase("{goroutine} would end", fields);
   }
 
   // What a goroutine waits for, and who may still serve it.
   /** @param {Wait} wait */
-  wait(wait, does = "waits") {
+  wait(wait, does = WAITS) {
     const { goroutine, places, wishes } = wait;
-    const at = this.at(places[0]?.line || 0);
-    if (!wishes.length) return [`${goroutine} ${does.includes("ever") ? does : `${does} for ever`} at ${at}`, `${INDENT}its select has no cases`];
-    const callers = places.slice(1, 1 + MAX_CALLERS).map(({ name, line }) => `${INDENT}called from ${name}, ${this.at(line)}`);
-    const nil = wishes.some(({ channel }) => channel === NIL) ? [`${INDENT}a nil channel blocks for ever`] : [];
+    const fields = { goroutine, place: this.at(places[0]?.line || 0) };
+    if (!wishes.length) return [phrase(does.forEver, fields), INDENT + phrase("its select has no cases")];
+    const callers = places.slice(1, 1 + MAX_CALLERS).map(({ name, line }) => INDENT + phrase("called from {name}, {place}", { name, place: this.at(line) }));
+    const nil = wishes.some(({ channel }) => channel === NIL) ? [INDENT + phrase("a nil channel blocks for ever")] : [];
     const isFirst = (/** @type {Wish} */ wish) => wish === wishes.find(({ verb, channel }) => verb === wish.verb && channel === wish.channel);
     const served = wishes.filter((wish) => wish.channel !== NIL && isFirst(wish)).flatMap((wish) => this.served(wish));
-    return [`${goroutine} ${does} to ${wishesText(wait)} at ${at}`, ...callers, ...nil, ...served];
+    return [phrase(does.toDo, { ...fields, wishes: wishesText(wait) }), ...callers, ...nil, ...served];
   }
 
   // Who holds what is waited for, and who may still serve it.
   /** @param {Wish} wish */
   served(wish) {
     const { items, taken, last } = wish;
-    const name = wish.variable || wish.channel;
-    const told = items.slice(0, MAX_ITEMS).map((hold) => `${holderText(hold, wish)} put ${hold.value} into ${name} at ${this.atCalled(hold)}`);
-    if (items.length > MAX_ITEMS) told.push(`and ${items.length - MAX_ITEMS} items more are in it`);
-    if (taken) told.push(`${holderText(taken, wish)} took the last item of ${name} at ${this.atCalled(taken)}`);
-    if (last) told.push(`${holderOf(last)} was the last one to ${SERVES[wish.verb]} ${name}, at ${this.atCalled(last)}`);
+    const channel = wish.variable || wish.channel;
+    const told = items.slice(0, MAX_ITEMS).map((hold) => phrase("{holder} put {value} into {channel} at {place}", { holder: holderText(hold, wish), value: String(hold.value), channel, place: this.atCalled(hold) }));
+    if (items.length > MAX_ITEMS) told.push(phrase("and {count} item more is in it | and {count} items more are in it", { count: items.length - MAX_ITEMS }));
+    if (taken) told.push(phrase("{holder} took the last item of {channel} at {place}", { holder: holderText(taken, wish), channel, place: this.atCalled(taken) }));
+    if (last) told.push(phrase(LAST[served(wish)], { goroutine: holderOf(last), channel, place: this.atCalled(last) }));
     if (!ownersOf(wish).length) told.push(serversText(wish));
     return told.map((line) => INDENT + line);
   }
@@ -86,39 +101,40 @@ export class Sentences {
   // The place of a step, with the one that called it where it has callers, and the command that takes it back.
   /** @param {Hold} hold */
   atCalled({ step, line, callers }) {
-    const called = callers.length ? `, called at ${this.at(callers[0])}` : "";
-    return `${this.at(line)}${called} ('back ${step}' takes that back)`;
+    const place = callers.length ? phrase("{place}, called at {caller}", { place: this.at(line), caller: this.at(callers[0]) }) : this.at(line);
+    return phrase("{place} ('{command}' takes that back)", { place, command: `back ${step}` });
   }
 
   /** @param {number} line */
   at(line) {
-    return line ? `${this.program.where(line)}: ${this.program.line(line)}` : "a line that is not known";
+    return line ? `${this.program.where(line)}: ${this.program.line(line)}` : phrase("a line that is not known");
   }
 }
 
 // What a goroutine waits for, by its own names for the channels: `send 3 to out (g0/c1)`.
 /** @param {{wishes: Wish[]}} wait */
-export const wishesText = ({ wishes }) => [...new Set(wishes.map(wishText))].join(" or ");
+export const wishesText = ({ wishes }) => either([...new Set(wishes.map(wishText))]);
 
 /** @param {Wish} wish */
 function wishText({ verb, channel, value, variable }) {
-  const does = verb === "send" && value ? `send ${value} to` : DOES[verb];
-  if (channel === NIL) return `${does} a nil channel`;
-  return `${does} ${variable ? `${variable} (${channel})` : channel}`;
+  const fields = { value: String(value), channel: variable ? `${variable} (${channel})` : channel };
+  const sends = verb === "send" && value;
+  if (channel === NIL) return sends ? phrase("send {value} to a nil channel", fields) : phrase(DOES_NIL[verb]);
+  return sends ? phrase("send {value} to {channel}", fields) : phrase(DOES[verb], fields);
 }
 
 /** @param {Wish} wish */
 function serversText(wish) {
   const { verb, servers, behind, isRange } = wish;
-  const name = wish.variable || wish.channel;
+  const channel = wish.variable || wish.channel;
   if (servers.length) {
     const verbs = ["send", "receive", "close"].filter((it) => servers.some((server) => server.verbs.some((one) => one === it)));
-    return `it waits for ${named(servers.map(({ goroutine }) => goroutine))}, which may still ${verbs.map((it) => SERVED[it]).join(" or ")}`;
+    return phrase("it waits for {goroutines}, which may still {verbs}", { goroutines: named(servers.map(({ goroutine }) => goroutine)), verbs: either(verbs.map((it) => phrase(SERVED[it]))) });
   }
-  if (behind.length) return `only ${named(behind)} would ${SERVES[verb]} ${name}, after a ${verb} of its own that waits too`;
-  if (verb === "send") return `no other goroutine can still receive from ${name}`;
-  if (isRange) return `nobody will send to ${name} again, and nobody closes it: the range cannot end`;
-  return `no other goroutine can still send to ${name} or close it`;
+  if (behind.length) return phrase(BEHIND[served(wish)], { goroutines: named(behind), channel });
+  if (verb === "send") return phrase("no other goroutine can still receive from {channel}", { channel });
+  if (isRange) return phrase("nobody will send to {channel} again, and nobody closes it: the range cannot end", { channel });
+  return phrase("no other goroutine can still send to {channel} or close it", { channel });
 }
 
 // A goroutine that used a channel, and whether it may still serve those that wait.
@@ -126,25 +142,35 @@ function serversText(wish) {
  * @param {Hold} hold
  * @param {Wish} wish
  */
-function holderText(hold, { verb }) {
-  const name = holderOf(hold);
-  if (hold.stand === "self") return `${name} itself`;
-  if (hold.stand === "done") return `${name}, which is done,`;
-  return hold.stand === "may" ? `${name}, which may still ${SERVES[verb]} it,` : `${name}, which never will ${SERVES[verb]} it again,`;
+function holderText(hold, wish) {
+  const goroutine = holderOf(hold);
+  if (hold.stand === "self") return phrase("{goroutine} itself", { goroutine });
+  if (hold.stand === "done") return phrase("{goroutine}, which is done,", { goroutine });
+  return phrase((hold.stand === "may" ? MAY : NEVER)[served(wish)], { goroutine });
 }
+
+// What those wait for that are to be served: a close is waited for as a value is.
+/** @param {Wish} wish */
+const served = ({ verb }) => (verb === "send" ? "send" : "receive");
 
 // Some names of goroutines: `g0.1 or g0.2`.
 /** @param {string[]} names */
-const named = (names) => [...names.slice(0, MAX_NAMES), ...(names.length > MAX_NAMES ? [`${names.length - MAX_NAMES} more`] : [])].join(" or ");
+const named = (names) => either([...names.slice(0, MAX_NAMES), ...(names.length > MAX_NAMES ? [phrase("{count} more", { count: names.length - MAX_NAMES })] : [])]);
 
 /** @param {number} count */
-const more = (count) => (count > 0 ? [`and ${count} ${count === 1 ? "goroutine" : "goroutines"} more`] : []);
+const more = (count) => (count > 0 ? [phrase("and {count} goroutine more | and {count} goroutines more", { count })] : []);
+
+/**
+ * @param {string} goroutine
+ * @param {string} other
+ */
+export const waitsForText = (goroutine, other) => phrase("{goroutine} waits for {other}", { goroutine, other });
 
 /** @param {string[]} cycle */
-export const cycleText = (cycle) => (cycle.length ? [`A cycle: ${cycle.map((name, at) => `${name} waits for ${cycle[(at + 1) % cycle.length]}`).join(", ")}.`] : []);
+export const cycleText = (cycle) => (cycle.length ? [phrase("A cycle: {waits}.", { waits: inRow(cycle.map((name, at) => waitsForText(name, cycle[(at + 1) % cycle.length]))) })] : []);
 
 /** @param {number} count */
-export const notDone = (count) => `${count === 1 ? "1 goroutine was" : `${count} goroutines were`} not done`;
+export const notDone = (count) => phrase("{count} goroutine was not done | {count} goroutines were not done", { count });
 
 // How a program ended: how many goroutines were not done, and how many of them are leaks.
 /**
@@ -152,7 +178,7 @@ export const notDone = (count) => `${count === 1 ? "1 goroutine was" : `${count}
  * @param {number} leaks
  */
 export function endedText(count, leaks) {
-  if (!count) return "The program has ended, and every goroutine is done.";
-  const are = !leaks ? "none of them is a leak" : leaks === 1 ? "1 is a leak" : `${leaks} are leaks`;
-  return `The program has ended. ${notDone(count)} when main returned, and ${are}.`;
+  if (!count) return phrase("The program has ended, and every goroutine is done.");
+  const are = leaks ? phrase("{count} is a leak | {count} are leaks", { count: leaks }) : phrase("none of them is a leak");
+  return phrase("The program has ended. {not_done} when main returned, and {leaks}.", { not_done: notDone(count), leaks: are });
 }
