@@ -24,9 +24,9 @@ TABLE = "docs/EDITS.md"
 MOST = 50
 GATE, OTHERS = "must-fail", "edits"
 # The crates whose functions do nothing: their contracts are examples and laws.
-WITHOUT_CODE = {"gr_bounds", "gr_code", "gr_laws", "gr_may", "gr_rules", "gr_schedules", "litmus"}
+WITHOUT_CODE = {"gr_bounds", "gr_code", "gr_late", "gr_laws", "gr_may", "gr_rules", "gr_schedules", "litmus"}
 # The modules of other crates that laws alone name.
-OF_LAWS = {"gr_session": {"specs/Claim.antt", "specs/Moves.antt"}}
+OF_LAWS = {"gr_search": {"specs/Late.antt", "specs/Meetings.antt"}, "gr_session": {"specs/Claim.antt", "specs/Moves.antt"}}
 NUMBERS = re.compile(r"`crates/NAME/edits` has (\d+) edits.*?(\d+) change code.*?(\d+) change a definition", re.S)
 ROW = re.compile(r"\| (.+) \| `([\w:]+)`(?:, `(\w+)`)? \| `(\w+)` \| `([\w.-]+\.edit)` \|")
 

@@ -8,15 +8,15 @@ from .checks import Checks
 from .markdown import page
 
 GUIDE, SHORTCUTS = "docs/PAGE.md", "page/src/control/shortcuts.js"
-ROW = re.compile(r'\{ keys: \[(.*?)\],(?: shown: "([^"]+)",)? says: "([^"]+)"')
-IN_PICTURE = re.compile(r'^  \["([^"]+)", "([^"]+)"\],$', re.M)
+ROW = re.compile(r'\{ keys: \[(.*?)\],(?: shown: (?:phrase\()?"([^"]+)"\)?,)? says: phrase\("([^"]+)"\)')
+IN_PICTURE = re.compile(r'^  \[phraseKey\("([^"]+)"\), phraseKey\("([^"]+)"\)\],$', re.M)
 
 
 def keys_of_page() -> list[tuple[str, str]]:
     """(key, what it does) of each key, as the page's help shows it."""
     text = repository.read(SHORTCUTS)
     table = [(shown or re.findall(r'"([^"]+)"', keys)[0], says) for keys, shown, says in ROW.findall(text)]
-    return table + [(key, f"in the picture: {says}") for key, says in IN_PICTURE.findall(text)]
+    return table + IN_PICTURE.findall(text)
 
 
 def check(checks: Checks) -> None:
