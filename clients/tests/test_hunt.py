@@ -28,6 +28,7 @@ from rewind_hunt.shortening import Shortener
 from rewind_hunt.story import Story
 from rewind_hunt.ways import Ways
 
+from support.begun import Begun
 from support.places import CLIENTS, EXAMPLES
 
 COMMAND = [sys.executable, str(CLIENTS / "rewind-hunt")]
@@ -519,16 +520,19 @@ def test_a_stream_that_is_closed_or_full(closed: str, status: int, said: str, re
     assert (done.returncode, done.stderr) == (status, said)
 
 
-def test_a_ctrl_c_at_any_moment(rewind: str) -> None:
+def test_a_ctrl_c_at_any_moment(rewind: str, tmp_path: Path) -> None:
     """It ends the hunt without a traceback."""
     words = [*COMMAND, "--jobs", "2", "--runs", "20000", str(EXAMPLES / "philosophers.go")]
-    for moment in (0.06, 0.1, 0.15, 0.2, 0.25, 0.3, 0.35, 0.4, 0.45, 0.5):
-        environment, pipe = {**os.environ, "REWIND": rewind}, subprocess.PIPE
+    begun = Begun(tmp_path)
+    for twentieths in range(10):
+        begun.forget()
+        environment, pipe = {**begun.environment, "REWIND": rewind}, subprocess.PIPE
         child = subprocess.Popen(words, stdout=pipe, stderr=pipe, text=True, env=environment, start_new_session=True)
-        time.sleep(moment)
+        begun.wait()
+        time.sleep(0.05 * twentieths)
         os.killpg(child.pid, signal.SIGINT)
         _, said = child.communicate(timeout=60)
-        assert "rewind" not in said and "Error" not in said, (moment, said)
+        assert "rewind" not in said and "Error" not in said, (twentieths, said)
 
 
 class Terminal(io.StringIO):

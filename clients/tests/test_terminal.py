@@ -14,6 +14,7 @@ from typing import Optional
 import pexpect
 import pytest
 
+from support.begun import Begun
 from support.places import CLIENTS, EXAMPLES
 
 SHELL = CLIENTS / "rewind-shell"
@@ -160,12 +161,14 @@ def test_a_core_that_is_killed(begin: Begin) -> None:
 
 def test_a_ctrl_c_at_any_moment_of_the_start(rewind: str, tmp_path: Path) -> None:
     """It ends the shell, or is taken at the prompt; there is no traceback of ours."""
-    environment = {**os.environ, "TERM": "xterm", "XDG_STATE_HOME": str(tmp_path / "state")}
+    begun = Begun(tmp_path)
+    environment = {**begun.environment, "TERM": "xterm", "XDG_STATE_HOME": str(tmp_path / "state")}
     words = [sys.executable, str(SHELL), "--rewind", rewind, str(EXAMPLES / "lock_order.go")]
     for twentieths in range(12):
+        begun.forget()
         terminal = Terminal(words, environment, 100)
+        begun.wait()
         terminal.read(0.05 * twentieths)
-        time.sleep(0.05)
         os.kill(terminal.child.pid, signal.SIGINT)
         while terminal.child.isalive() and "(rewind g0)" not in terminal.text:
             terminal.read(0.1)
