@@ -10,8 +10,9 @@ import os
 import subprocess
 import tempfile
 
-from page.module.retarget import NeedsX86, always_inlined, retarget
+from page.module.retarget import always_inlined, retarget
 from tools import kit
+from tools.machines.retarget import NeedsX86
 
 HERE = os.path.dirname(os.path.realpath(__file__))
 

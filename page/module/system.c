@@ -1,15 +1,16 @@
-/* The part of an operating system that the program asks for, in a page: the words of its command line, one file (`program.go`), the
- * three standard streams, and an end. The page gives `host.read`, `host.write` and `host.exit`. Descriptor 3 is the file. Descriptor 4
- * gives the words, each with a nul behind it; of more than fit, the last ones are left out. */
+/* The part of an operating system that the program asks for, as WebAssembly: the words of its command line, files to read, the three
+ * standard streams, and an end. The host gives `host.open`, `host.read`, `host.write` and `host.exit`. `open` answers a descriptor
+ * above 4, or a number below 0 where there is no such file. Descriptor 4 gives the words, each with a nul behind it; of more than
+ * fit, the last ones are left out. */
 typedef unsigned long size;
 typedef long count;
 
+__attribute__((import_module("host"), import_name("open"))) count host_open(const char *path, size length);
 __attribute__((import_module("host"), import_name("read"))) count host_read(int descriptor, void *to, size most);
 __attribute__((import_module("host"), import_name("write"))) count host_write(int descriptor, const void *from, size most);
 __attribute__((import_module("host"), import_name("exit"), noreturn)) void host_exit(int status);
 
-enum { NO_SUCH_FILE = 2, INPUT_OUTPUT = 5, OUT_OF_RANGE = 34, THE_FILE = 3, THE_WORDS = 4, MOST_BYTES = 1024 };
-static const char file_name[] = "program.go";
+enum { NO_SUCH_FILE = 2, INPUT_OUTPUT = 5, OUT_OF_RANGE = 34, THE_WORDS = 4, MOST_BYTES = 1 << 16 };
 static char command_line[MOST_BYTES];
 static size bytes_of_words;
 static int last_error;
@@ -60,9 +61,10 @@ int rattle_errno(void) { return last_error; }
 void rattle_set_errno(int error) { last_error = error; }
 
 int open(const char *path, int flags, ...) {
-  const char *name = file_name;
-  while (*name && *path == *name) path++, name++;
-  if (!*name && !*path) return THE_FILE;
+  size length = 0;
+  while (path[length]) length++;
+  count descriptor = host_open(path, length);
+  if (descriptor > THE_WORDS) return (int)descriptor;
   last_error = NO_SUCH_FILE;
   return -1;
 }

@@ -1,7 +1,8 @@
 """How a module for x86-64 becomes one for wasm64, and what is refused."""
 import unittest
 
-from page.module.retarget import LARGE, NeedsX86, always_inlined, retarget
+from page.module.retarget import LARGE, always_inlined, retarget
+from tools.machines.retarget import NeedsX86
 
 
 def of(*lines: str) -> list[str]:

@@ -5,10 +5,12 @@
 
 import { QUESTIONS, decoder, encoder } from "./protocol.js";
 
-const SOURCE = 3; // the descriptor of the source file; 0, 1 and 2 are the standard streams
+const ERRORS = 2; // the descriptor of the stream for errors; 0 and 1 are the other standard streams
 const WORDS = 4; // that of the words of the command line, each with a nul behind it
-const DEBUG = ["rewind", "program.go"];
-const ERRORS = 2;
+const SOURCE = 5; // that of the source file
+const NO_SUCH_FILE = -2;
+const FILE = "program.go";
+const DEBUG = ["rewind", FILE];
 
 // What the program's `_exit` throws: the run is over, with this status.
 class Exit {
@@ -79,6 +81,16 @@ class Streams {
     return count;
   }
 
+  // The descriptor of the source, where the program asks for it.
+  /**
+   * @param {number | bigint} path
+   * @param {number | bigint} length
+   */
+  open(path, length) {
+    const name = decoder.decode(new Uint8Array(this.memory.buffer, Number(path), Number(length)));
+    return asWide(name === FILE ? SOURCE : NO_SUCH_FILE, length);
+  }
+
   // Reads of what is no standard stream.
   /**
    * @param {number} descriptor
@@ -130,11 +142,12 @@ class Streams {
    * @param {any} read
    */
   async instance(program, read) {
+    const open = /** @type {Streams["open"]} */ ((path, length) => this.open(path, length));
     const write = /** @type {Streams["write"]} */ ((descriptor, from, count) => this.write(descriptor, from, count));
     const exit = /** @param {number} status */ (status) => {
       throw new Exit(status);
     };
-    const { exports } = /** @type {any} */ (await WebAssembly.instantiate(program, { host: { read, write, exit } }));
+    const { exports } = /** @type {any} */ (await WebAssembly.instantiate(program, { host: { open, read, write, exit } }));
     this.memory = exports.memory;
     return exports.program_main;
   }
