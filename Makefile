@@ -15,7 +15,7 @@ NEEDS_RT = @: $(RT)
 
 .DEFAULT_GOAL := $(if $(HAS_RT),all,help)
 .PHONY: all help quick quick-page demo test lint gate prove edits words command-line-test bench replay second-opinion beside-go carry carry-page carry-beside-go hostile times \
-	gate-times make-times slowest stalls faces dap-test page page-test page-lint vsix dist quick-dist dist-check release-check release-test \
+	gate-times make-times slowest stalls faces dap-test page page-test page-lint vsix arm64 node dist quick-dist dist-check release-check release-test \
 	bare-debian page-pictures install uninstall clean
 
 ## Use it
@@ -81,11 +81,22 @@ page/out/rewind.bc: bin/rewind page/module/proved_module.py tools/build/keep_mod
 vsix: $(if $(wildcard bin/rewind),,bin/rewind-quick) ## the extension for VS Code, with all it needs: bin/rewind.vsix (a second)
 	tools/release/vsix.py $(firstword $(wildcard bin/rewind) bin/rewind-quick) bin/rewind.vsix
 
-dist: page ## the release: the page, and an archive for Linux, which need no toolchain (2 minutes after make page)
-	tools/release/dist.py page/out/rewind.bc bin/rewind.html dist
+# Made of the proved program where that is there, else of the quick build.
+arm64: $(if $(wildcard page/out/rewind.bc),,bin/quick/rewind.bc) release-needs ## the program for Linux on arm64: bin/rewind-arm64 (3 minutes)
+	tools/machines/arm64.py $(firstword $(wildcard page/out/rewind.bc) bin/quick/rewind.bc) bin/rewind-arm64
 
-quick-dist: quick-page ## the same of the quick build, to try how it is made: bin/quick-dist (2 minutes after make quick-page)
-	tools/release/dist.py --trial bin/quick/rewind.bc bin/rewind-quick.html bin/quick-dist
+node: $(if $(wildcard page/out/rewind.wasm),,page/out/rewind-quick.wasm) ## the program for Node 18 or newer, on any system: bin/rewind.mjs (a second after make page)
+	tools/machines/node.py $(firstword $(wildcard page/out/rewind.wasm) page/out/rewind-quick.wasm) bin/rewind.mjs
+
+.PHONY: release-needs
+release-needs:
+	@tools/release/needs.sh
+
+dist: page release-needs ## the release: the page, archives, packages and wheels, which need no toolchain (10 minutes after make page)
+	tools/release/dist.py page/out/rewind.bc page/out/rewind.wasm bin/rewind.html dist
+
+quick-dist: quick-page release-needs ## the same of the quick build, to try how it is made: bin/quick-dist (10 minutes after make quick-page)
+	tools/release/dist.py --trial bin/quick/rewind.bc page/out/rewind-quick.wasm bin/rewind-quick.html bin/quick-dist
 
 dist-check: ## makes the release in two fresh clones, and compares the files byte by byte (minutes after make; else hours)
 	$(NEEDS_RT)
@@ -95,7 +106,7 @@ release-check: ## checks the committed release without the toolchain: it starts,
 	tests/released.sh
 
 release-test: ## starts each file of a release where nothing else is (1 minute; FOLDER=dist)
-	tests/run.sh --rewind=$(firstword $(wildcard bin/rewind) bin/rewind-quick) --release=$(or $(FOLDER),dist) tests/test_release.py
+	tests/run.sh --rewind=$(firstword $(wildcard bin/rewind) bin/rewind-quick) --release=$(or $(FOLDER),dist) tests/test_release.py tests/test_release_files.py
 
 bare-debian: ## the archive of a release on bare Debian, in folders that debootstrap makes (10 minutes; as root, with a network)
 	tests/bare_debian.sh $(or $(ARCHIVE),$(wildcard dist/*.tar.xz))

@@ -43,7 +43,7 @@ def pytest_configure(config: pytest.Config) -> None:
 
 def is_left_out(config: pytest.Config, item: pytest.Item) -> bool:
     """Whether a case is of the long form, or wants a release, and neither is asked for."""
-    is_of_release = item.path.name == "test_release.py" and not config.getoption("--release")
+    is_of_release = item.path.name.startswith("test_release") and not config.getoption("--release")
     return is_of_release or bool(item.get_closest_marker("full")) and not config.getoption("--full")
 
 

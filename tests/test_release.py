@@ -52,7 +52,7 @@ class Unpacked:
     """A folder with the files of a release, and the folder that its archive is unpacked to."""
 
     def __init__(self, folder: Path, work: Path) -> None:
-        (archive,) = folder.glob("*.tar.xz")
+        (archive,) = folder.glob("*-x86_64-linux.tar.xz")
         self.folder, self.work = folder, work
         for path in (archive, folder / PAGE):
             shutil.copy(path, work)
@@ -93,7 +93,10 @@ def request_of(command: str, **arguments: str) -> str:
 
 def test_the_sums_are_right(release: Unpacked) -> None:
     seen = release.said(["sh", "-c", 'cd "$1" && sha256sum --check --strict SHA256SUMS', "sh", str(release.folder)])
-    assert seen.count(": OK") == 2, seen
+    listed = (release.folder / "SHA256SUMS").read_text(encoding="utf-8").split("\n")[:-1]
+    assert seen.count(": OK") == len(listed) >= 2, seen
+    named = {line.split()[1] for line in listed}
+    assert named == {path.name for path in release.folder.iterdir()} - {"SHA256SUMS", "README.md"}
 
 
 def test_no_toolchain_is_on_the_path() -> None:

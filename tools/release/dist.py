@@ -1,10 +1,11 @@
 #!/usr/bin/env python3
 """Makes a release of the proved program: files that need no toolchain.
 
-    python3 -m tools.release.dist [--trial] MODULE.bc PAGE.html FOLDER
+    python3 -m tools.release.dist [--trial] MODULE.bc MODULE.wasm PAGE.html FOLDER
 
-FOLDER gets the page, an archive for Linux, SHA256SUMS and README.md. MODULE.bc is the program's LLVM module, as
-page/module/proved_module.py leaves it. It is compiled and linked statically, so that the program runs on any Linux.
+FOLDER gets the page, the program for Node, archives, packages of Debian and wheels, the documents as a book, a bill of materials,
+SHA256SUMS and README.md. MODULE.bc is the program's LLVM module, as page/module/proved_module.py leaves it. It is compiled for
+x86-64 and for arm64, and linked statically, so that the program runs on any Linux. MODULE.wasm is what the page has of it.
 
 The same commit gives the same bytes: an archive has its files in the order of their names, with the time of the commit
 and one owner. The tree must be that of a commit, but for the folder dist, and the version that of CHANGELOG.md. A trial
@@ -23,15 +24,24 @@ import tarfile
 import tempfile
 
 from tools import kit
-from tools.release import notices
+from tools.machines import node
+from tools.release import deb, notices, wheel
+from tools.release.materials import bill
+from tools.release.versions import first, read, version
 
 TEXTS = f"{kit.ROOT}/tools/release"
 SESSIONS = f"{kit.ROOT}/crates/sessions/data"
 EXAMPLES = ("deadlock", "leaked_goroutine", "lost_update", "prime_sieve", "race_in_select", "send_on_closed")
 PAGE = "rewind.html"
+NODE = "rewind.mjs"
 # What a folder of a release may hold, and how many bytes of each.
-NAMES = re.compile(r"rewind\.html|rewind-[\d.]+(-dev)?-x86_64-linux\.tar\.xz|SHA256SUMS|README\.md")
-MOST = {"html": 2_500_000, "xz": 1_500_000}
+VERSIONED = r"rewind-{0}-(x86_64|arm64)-linux\.tar\.xz|rewind_{0}_(amd64|arm64)\.deb|rewind_clients-{0}-py3-none-\w+\.whl"
+NAMES = re.compile(rf"rewind(-documents)?\.html|rewind\.(mjs|spdx\.json)|{VERSIONED.format('[a-z0-9.~-]+')}|SHA256SUMS|README\.md")
+MOST = {"html": 2_500_000, "xz": 1_500_000, "deb": 2_000_000, "whl": 1_500_000, "mjs": 1_000_000, "json": 100_000}
+MOST_OF_ALL = 12_000_000
+# The machines of Linux, as Debian names them; and as an archive does, and the extension for VS Code.
+MACHINES = {"amd64": "x86_64", "arm64": "arm64"}
+EXTENSIONS = {"amd64": "linux-x64", "arm64": "linux-arm64"}
 UNPROVED = "(unproved build)"
 PROVED = "The program is the proved one."
 TRIAL = "This is a trial and no release: the program may be unproved, and the tree changed."
@@ -42,28 +52,19 @@ PACKAGES = {
     "libjs-codemirror": "the editor, in the page",
     "esbuild": "how the page's modules are joined",
     "zlib1g": "how the page is compressed",
-    "liblzma5": "how the archive is compressed",
+    "liblzma5": "how an archive is compressed",
+    "libc6-dev-arm64-cross": "the C library, in the program for arm64",
+    "gcc-aarch64-linux-gnu": "the compiler of its C file, and its linker",
+    "dpkg": "how the packages of Debian are made",
+    "help2man": "how manual pages are made of what `--help` says",
+    "python3-setuptools": "how the wheels are made",
+    "python3-wheel": "the same",
+    "python3-markdown-it": "how the documents become a book",
 }
 
 
 def said_by(*words: str) -> str:
     return subprocess.run(words, cwd=kit.ROOT, stdout=subprocess.PIPE, text=True, check=True).stdout.strip()
-
-
-def read(path: str) -> str:
-    with open(path, encoding="utf-8") as file:
-        return file.read()
-
-
-def first(pattern: str, path: str) -> str:
-    """What the group of a pattern finds first in a file."""
-    found = re.search(pattern, read(path), re.M)
-    return found[1] if found else kit.stop(f"{path} has nothing of the form {pattern}")
-
-
-def version() -> str:
-    """The program's version, by the file that its texts are made from."""
-    return first(r"^version\n    text: (\S+)$", f"{kit.ROOT}/words/program.txt")
 
 
 def check_tree() -> None:
@@ -113,6 +114,11 @@ def filled(name: str, told: dict[str, str]) -> str:
     return re.sub(rf"\b({'|'.join(told)})\b", lambda word: told[word[0]], read(f"{TEXTS}/{name}"))
 
 
+def content_of(path: str) -> bytes:
+    with open(path, "rb") as file:
+        return file.read()
+
+
 def write(path: str, content: bytes) -> None:
     with open(path, "wb") as file:
         file.write(content)
@@ -123,10 +129,10 @@ def quietly(*words: str, **more: str) -> None:
     subprocess.run(words, stdout=subprocess.DEVNULL, check=True, env={**os.environ, **more})
 
 
-def staged(program: str, folder: str, told: dict[str, str]) -> None:
+def staged(program: str, machine: str, folder: str, told: dict[str, str]) -> None:
     """Leaves the files of the archive in `folder`."""
     quietly(f"{kit.ROOT}/tools/release/install.sh", folder, "/", REWIND_PROGRAM=program)
-    quietly(f"{kit.ROOT}/tools/release/vsix.py", "--stored", program, f"{folder}/rewind.vsix")
+    quietly(f"{kit.ROOT}/tools/release/vsix.py", "--stored", "--target", EXTENSIONS[machine], program, f"{folder}/rewind.vsix")
     shutil.copy(f"{kit.ROOT}/LICENSE", folder)
     write(f"{folder}/NOTICES", notices.of_program(kit.folder()).encode())
     for name in ("README.md", "VERIFY.md"):
@@ -162,19 +168,53 @@ def packed(folder: str, top: str, time: int) -> bytes:
     return lzma.compress(content.getvalue(), preset=6 | lzma.PRESET_EXTREME)
 
 
-def made(module: str, page: str, told: dict[str, str], is_trial: bool) -> dict[str, bytes]:
+def programs(module: str, work: str) -> dict[str, str]:
+    """Where the program for each machine lies, made of the module in `work`."""
+    made = {machine: f"{work}/rewind-{machine}" for machine in MACHINES}
+    subprocess.run([f"{kit.ROOT}/tools/build/quick_program.py", "--static", module, made["amd64"]], check=True)
+    subprocess.run([f"{kit.ROOT}/tools/machines/arm64.py", module, made["arm64"]], check=True)
+    return made
+
+
+def archive_of(program: str, machine: str, told: dict[str, str], time: int, work: str) -> tuple[str, bytes]:
+    """The name and the bytes of the archive for a machine."""
+    top = f"rewind-{told['VERSION']}-{MACHINES[machine]}-linux"
+    os.mkdir(f"{work}/{top}")
+    staged(program, machine, f"{work}/{top}", told)
+    return f"{top}.tar.xz", packed(f"{work}/{top}", top, time)
+
+
+def book_of(work: str) -> bytes:
+    """The documents as one page."""
+    path = f"{work}/book.html"
+    quietly(kit.python_with("markdown_it"), "-m", "tools.release.book", path, PYTHONPATH=kit.ROOT)
+    with open(path, "rb") as file:
+        return file.read()
+
+
+def made(module: str, wasm: str, page: str, told: dict[str, str], is_trial: bool) -> dict[str, bytes]:
     """The name and the bytes of each file."""
-    top = f"rewind-{told['VERSION']}-x86_64-linux"
     time = int(said_by("git", "log", "-1", "--format=%ct"))
     with tempfile.TemporaryDirectory(prefix="rewind-dist-") as work:
-        program = f"{work}/rewind"
-        subprocess.run([f"{kit.ROOT}/tools/build/quick_program.py", "--static", module, program], check=True)
-        check_program(program, is_trial)
-        os.mkdir(f"{work}/{top}")
-        staged(program, f"{work}/{top}", told)
-        archive = packed(f"{work}/{top}", top, time)
-    with open(page, "rb") as file:
-        return {f"{top}.tar.xz": archive, PAGE: file.read()}
+        built = programs(module, work)
+        runs = built["amd64"]
+        check_program(runs, is_trial)
+        files = dict(archive_of(program, machine, told, time, work) for machine, program in built.items())
+        for machine, program in built.items():
+            files[f"rewind_{deb.version_of_package()}_{machine}.deb"] = deb.made(program, runs, machine, page, time)
+        write(f"{work}/{NODE}", node.made(content_of(wasm)).encode())
+        files[NODE] = content_of(f"{work}/{NODE}")
+        files.update(wheel.made(built, f"{work}/{NODE}", time))
+        files["rewind-documents.html"] = book_of(work)
+    files[PAGE] = content_of(page)
+    files["rewind.spdx.json"] = bill(files, parts(), time).encode()
+    return files
+
+
+def parts() -> dict[str, str]:
+    """What is linked into the program, beside Rewind, and the version of each."""
+    crates = {name: said_by("rt", "version") for name in notices.crates(kit.folder())}
+    return {**crates, **{name: version_of(name) for name in ("libc6-dev", "libc6-dev-arm64-cross", "libjs-codemirror")}}
 
 
 def check_sizes(files: dict[str, bytes]) -> None:
@@ -183,6 +223,8 @@ def check_sizes(files: dict[str, bytes]) -> None:
         most = MOST[name.rpartition(".")[2]]
         if len(content) > most:
             kit.fail(f"{name} has {len(content):,} bytes, and a release at most {most:,}")
+    if sum(map(len, files.values())) > MOST_OF_ALL:
+        kit.fail(f"the files have {sum(map(len, files.values())):,} bytes together, and a release at most {MOST_OF_ALL:,}")
 
 
 def emptied(folder: str) -> None:
@@ -195,11 +237,11 @@ def emptied(folder: str) -> None:
         os.remove(f"{folder}/{name}")
 
 
-def make(module: str, page: str, folder: str, is_trial: bool) -> None:
+def make(module: str, wasm: str, page: str, folder: str, is_trial: bool) -> None:
     if not is_trial:
         check_tree()
     told = facts(is_trial)
-    files = made(module, page, told, is_trial)
+    files = made(module, wasm, page, told, is_trial)
     check_sizes(files)
     sums = {name: hashlib.sha256(content).hexdigest() for name, content in files.items()}
     told["FILES"] = "\n".join(f"| `{name}` | {len(files[name]):,} | `{sums[name]}` |" for name in files)
@@ -214,14 +256,14 @@ def make(module: str, page: str, folder: str, is_trial: bool) -> None:
 def main() -> None:
     parser = argparse.ArgumentParser(description="Makes a release of the proved program: files that need no toolchain.")
     parser.add_argument("--trial", action="store_true", help="of a changed tree, any version, and the quick build")
-    for name in ("module", "page", "folder"):
+    for name in ("module", "wasm", "page", "folder"):
         parser.add_argument(name)
     asked = parser.parse_args()
-    module, page, folder = (os.path.abspath(it) for it in (asked.module, asked.page, asked.folder))
-    for path in (module, page):
+    module, wasm, page, folder = (os.path.abspath(it) for it in (asked.module, asked.wasm, asked.page, asked.folder))
+    for path in (module, wasm, page):
         if not os.path.isfile(path):
             kit.stop(f"there is no {path}")
-    make(module, page, folder, asked.trial)
+    make(module, wasm, page, folder, asked.trial)
 
 
 if __name__ == "__main__":

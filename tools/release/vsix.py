@@ -1,7 +1,9 @@
 #!/usr/bin/env python3
 """Packs the extension for VS Code, with the adapter, its library and the program, into a file that VS Code installs.
 
-    python3 -m tools.release.vsix [--stored] PROGRAM OUT     (--stored: nothing is compressed, for an archive that is)
+    python3 -m tools.release.vsix [--stored] [--target PLATFORM] PROGRAM OUT
+
+With --stored nothing is compressed, for an archive that is compressed itself. PLATFORM is linux-x64, or linux-arm64.
 
 The same files give the same bytes: each entry has a fixed time, and they stand in the order of their names.
 """
@@ -38,10 +40,10 @@ def files(program: str) -> dict[str, str]:
     return {"extension/" + name: path for name, path in sorted(found.items())}
 
 
-def manifest(package: dict[str, Any]) -> str:
+def manifest(package: dict[str, Any], platform: str) -> str:
     """What the package is, as VS Code reads it."""
     identity = {"Language": "en-US", "Id": package["name"], "Version": package["version"], "Publisher": package["publisher"]}
-    identity["TargetPlatform"] = "linux-x64"
+    identity["TargetPlatform"] = platform
     told = " ".join(f"{name}={quoteattr(value)}" for name, value in identity.items())
     return f"""<?xml version="1.0" encoding="utf-8"?>
 <PackageManifest Version="2.0.0" xmlns="http://schemas.microsoft.com/developer/vsx-schema/2011">
@@ -73,11 +75,11 @@ def content_types() -> str:
     )
 
 
-def pack(program: str, out: str, method: int) -> None:
+def pack(program: str, out: str, platform: str, method: int) -> None:
     with open(os.path.join(EXTENSION, "package.json"), encoding="utf-8") as file:
         package = json.load(file)
     with zipfile.ZipFile(out, "w", method) as archive:
-        write(archive, "extension.vsixmanifest", manifest(package).encode(), False)
+        write(archive, "extension.vsixmanifest", manifest(package, platform).encode(), False)
         write(archive, "[Content_Types].xml", content_types().encode(), False)
         for name, path in files(program).items():
             with open(path, "rb") as content:
@@ -95,6 +97,7 @@ def write(archive: zipfile.ZipFile, name: str, content: bytes, runs: bool) -> No
 def main() -> int:
     parser = argparse.ArgumentParser(description="Packs the extension for VS Code into a file that VS Code installs.")
     parser.add_argument("--stored", action="store_true", help="compress nothing, for an archive that is compressed itself")
+    parser.add_argument("--target", metavar="PLATFORM", default="linux-x64", choices=("linux-x64", "linux-arm64"), help="for which machine")
     parser.add_argument("program", metavar="PROGRAM")
     parser.add_argument("out", metavar="OUT")
     asked = parser.parse_args()
@@ -103,7 +106,7 @@ def main() -> int:
         print(f"vsix: there is no program {program}: build one by 'make quick' or 'make'", file=sys.stderr)
         return 2
     os.makedirs(os.path.dirname(os.path.abspath(out)), exist_ok=True)
-    pack(program, out, zipfile.ZIP_STORED if asked.stored else zipfile.ZIP_DEFLATED)
+    pack(program, out, asked.target, zipfile.ZIP_STORED if asked.stored else zipfile.ZIP_DEFLATED)
     print(f"{out}: {os.path.getsize(out):,} bytes")
     return 0
 
