@@ -1,14 +1,16 @@
 #!/bin/sh
 # bare_debian.sh ARCHIVE [NAME..]: tries the archive of a release on bare Debian (bullseye, bookworm and trixie), each in a folder
 # that debootstrap makes with no more than the least of packages. The program tells its version, and gives the replies that lie
-# beside the examples. Then Python is installed, and the shell, the hunt and the adapter start. It needs root, debootstrap and a
-# network. Each check gets a line, and the status is 1 where one fails.
+# beside the examples. Then Python is installed, and the shell, the hunt and the adapter start. Where the package of Debian lies beside
+# the archive, it is installed, tried and removed again, and leaves no file. It needs root, debootstrap and a network. Each check gets a
+# line, and the status is 1 where one fails.
 set -eu
 if ! [ -f "${1:-}" ]; then
   echo "tests: name the archive of a release, as tests/bare_debian.sh dist/rewind-1.1.0-x86_64-linux.tar.xz" >&2
   exit 2
 fi
 archive=$(realpath "$1")
+package=$(find "$(dirname "$archive")" -name 'rewind_*_amd64.deb' | head -n 1)
 shift
 [ $# -gt 0 ] || set -- bullseye bookworm trixie
 top=$(basename "$archive" .tar.xz)
@@ -51,6 +53,16 @@ for debian; do
   holds "the hunt finds a deadlock" inside 'bin/rewind-hunt --seed 1 examples/deadlock.go | grep "deadlock: no goroutine"'
   printf 'Content-Length: %s\r\n\r\n%s' ${#REQUEST} "$REQUEST" >"$work/$debian/request"
   holds "the adapter answers an editor" inside 'bin/rewind-dap </request | grep supportsStepBack'
+  if [ -n "$package" ]; then
+    cp "$package" "$work/$debian/rewind.deb"
+    inside 'find / -xdev -path /proc -prune -o -print | sort' >"$work/before"
+    holds "the package is installed" inside 'apt-get -qq install -y --no-install-recommends /rewind.deb'
+    holds "its shell tells why the program is stuck" inside 'printf "run 100\nwhy\nquit\n" | rewind-shell examples/deadlock.go | grep waits'
+    holds "its manual pages are there" inside 'zcat /usr/share/man/man1/rewind-hunt.1.gz || dpkg -L rewind | grep man1/rewind-hunt'
+    holds "the package is removed" inside 'apt-get -qq purge -y rewind'
+    inside 'find / -xdev -path /proc -prune -o -print | sort' >"$work/behind"
+    holds "it leaves no file" sh -c "! comm -13 '$work/before' '$work/behind' | grep rewind"
+  fi
   rm -rf --one-file-system "${work:?}/$debian"
 done
 [ "$failed" = 0 ]

@@ -59,11 +59,18 @@ HISTORY = """rewind ({version}) unstable; urgency=medium
 
  -- {maintainer}  {date}
 """
-# The program is linked statically, so that one file runs on any Linux. An address is named only where one is set. The browser that
-# shows the page is one of many packages.
+# The program is linked statically, so that one file runs on any Linux; lintian takes it for a library without others. An address is
+# named only where one is set. The browser that shows the page is one of many packages.
 OVERRIDES = """rewind: statically-linked-binary [usr/bin/rewind]
+rewind: shared-library-lacks-prerequisites [usr/bin/rewind]
 rewind: bogus-mail-host Maintainer *
+rewind: bogus-mail-host-in-debian-changelog *
 rewind: desktop-command-not-in-package xdg-open *
+"""
+# What Python keeps beside the clients where root has run them.
+BEFORE_REMOVAL = """#!/bin/sh
+set -e
+find /usr/lib/rewind -name __pycache__ -prune -exec rm -rf {} +
 """
 CLIENTS = ("rewind-shell", "rewind-hunt", "rewind-dap")
 
@@ -132,6 +139,8 @@ def control(top: Path, architecture: str) -> None:
     told = {"version": version_of_package(), "architecture": architecture, "maintainer": maintainer(), "size": size}
     put(top / "DEBIAN/control", CONTROL.format(**told))
     put(top / "DEBIAN/md5sums", sums)
+    put(top / "DEBIAN/prerm", BEFORE_REMOVAL)
+    (top / "DEBIAN/prerm").chmod(0o755)
 
 
 def made(program: str, runs: str, architecture: str, page: str, time: int) -> bytes:
