@@ -158,7 +158,7 @@ CARRY_SOURCES := carry/go.mod $(wildcard carry/*.go carry/*/*.go carry/source/st
 
 bin/rewind-carry: $(CARRY_SOURCES)
 	@command -v go >/dev/null || tools/packages.sh golang-go
-	cd carry && CGO_ENABLED=0 go build -trimpath -ldflags='-s -w' -o ../bin/rewind-carry .
+	cd carry && CGO_ENABLED=0 go build -trimpath -ldflags="-s -w -X main.version=$$(sed -n 's/^    text: //p;T;q' ../words/program.txt)" -o ../bin/rewind-carry .
 
 carry-page: bin/rewind-carry.js ## the same for the page, which loads it from beside itself: bin/rewind-carry.js (half a minute; needs go)
 

@@ -1,6 +1,6 @@
 // Command rewind-carry carries a program of Go over to the language of Rewind.
 //
-//	rewind-carry FILE.go [-o OUT.go] [--map MAP.json] [--json] [--go VERSION]
+//	rewind-carry FILE.go [-o OUT.go] [--map MAP.json] [--json] [--quiet] [--go VERSION]
 //
 // It tells of each place what became of it, on standard error, and writes the carried program to OUT.go, or to standard output.
 //
@@ -9,29 +9,28 @@
 package main
 
 import (
+	"errors"
 	"flag"
 	"fmt"
 	"io"
 	"os"
 	"path/filepath"
-	"strconv"
-	"strings"
 
 	"rewind/carry/report"
 	"rewind/carry/source"
-	"rewind/carry/translate"
 )
-
-type settings struct {
-	file, out, places string
-	asJSON, isQuiet   bool
-	options           translate.Options
-}
 
 func main() {
 	asked, err := read(os.Args[1:])
-	if err != nil {
+	switch {
+	case errors.Is(err, flag.ErrHelp):
+		fmt.Print(help)
+		return
+	case err != nil:
 		fail(err)
+	case asked.tellsVersion:
+		fmt.Println("rewind-carry", version)
+		return
 	}
 	status, err := run(asked)
 	if err != nil {
@@ -43,40 +42,6 @@ func main() {
 func fail(err error) {
 	fmt.Fprintln(os.Stderr, "rewind-carry:", err)
 	os.Exit(2)
-}
-
-// read reads the command line; the file may stand before or behind the options.
-func read(words []string) (settings, error) {
-	var asked settings
-	version := ""
-	flags := flag.NewFlagSet("rewind-carry", flag.ContinueOnError)
-	flags.SetOutput(io.Discard)
-	flags.StringVar(&asked.out, "o", "", "")
-	flags.StringVar(&asked.places, "map", "", "")
-	flags.BoolVar(&asked.asJSON, "json", false, "")
-	flags.BoolVar(&asked.isQuiet, "quiet", false, "")
-	flags.StringVar(&version, "go", "1.22", "")
-	for len(words) > 0 {
-		if err := flags.Parse(words); err != nil {
-			return asked, fmt.Errorf("%w; usage: rewind-carry FILE.go [-o OUT.go] [--map MAP.json] [--json] [--quiet] [--go VERSION]", err)
-		}
-		words = flags.Args()
-		if len(words) > 0 {
-			if asked.file != "" {
-				return asked, fmt.Errorf("one file at a time, and not %s, too", words[0])
-			}
-			asked.file, words = words[0], words[1:]
-		}
-	}
-	if asked.file == "" {
-		return asked, fmt.Errorf("usage: rewind-carry FILE.go [-o OUT.go] [--map MAP.json] [--json] [--quiet] [--go VERSION]")
-	}
-	minor, err := strconv.Atoi(strings.TrimPrefix(version, "1."))
-	if err != nil {
-		return asked, fmt.Errorf("--go takes a version as 1.21, and not %s", version)
-	}
-	asked.options.SharesLoops = minor < 22
-	return asked, nil
 }
 
 func text(file string) ([]byte, error) {
