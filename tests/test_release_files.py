@@ -147,8 +147,11 @@ def made_environment(folder: Path, wheel: Path) -> Path:
     return folder / "bin"
 
 
-def test_the_wheel_for_this_machine(find: Find, tmp_path: Path) -> None:
-    programs = made_environment(tmp_path / "env", find("rewind_clients-*manylinux2014_x86_64.whl"))
+@pytest.mark.parametrize("kind", ["manylinux2014_x86_64", "any"])
+def test_a_wheel(kind: str, find: Find, tmp_path: Path) -> None:
+    """That for any machine has the program for Node."""
+    needs("node")
+    programs = made_environment(tmp_path / "env", find(f"rewind_clients-*{kind}.whl"))
     environment = {"PATH": f"{programs}:/usr/bin:/bin", "HOME": str(tmp_path)}
     words = [str(programs / "rewind-shell"), str(EXAMPLES / "lock_order.go")]
     done = subprocess.run(words, input=b"run 100\nwhy\nquit\n", capture_output=True, env=environment, timeout=SECONDS, check=False)

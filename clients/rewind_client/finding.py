@@ -23,15 +23,21 @@ def is_program(path: str) -> bool:
     return os.path.isfile(path) and os.access(path, os.X_OK)
 
 
+def rewind_for_node() -> Optional[str]:
+    """The `rewind` that node runs, which lies beside this file where the clients were installed for any machine."""
+    path = os.path.join(os.path.dirname(os.path.abspath(__file__)), "rewind.mjs")
+    return path if is_program(path) and shutil.which("node") else None
+
+
 def find_rewind(named: Optional[str] = None) -> str:
-    """The `rewind` to take: the one named, that of `$REWIND`, one in bin of the repository, or the one on the path."""
+    """The `rewind` to take: the one named, that of `$REWIND`, one in bin of the repository, that on the path, or the one for Node."""
     for how, path in (("--rewind", named), ("$REWIND", os.environ.get("REWIND"))):
         if path:
             if not is_program(path):
                 raise NotFound(f"there is no program {path}, which {how} names")
             return os.path.abspath(path)
     beside = [os.path.join(REPOSITORY, "bin", name) for name in PROGRAMS]
-    found = next(filter(is_program, beside), None) or shutil.which("rewind")
+    found = next(filter(is_program, beside), None) or shutil.which("rewind") or rewind_for_node()
     if not found:
         looked = f"{beside[0]}, {beside[1]} and the path"
         raise NotFound(f"no rewind was found in {looked}: build one by 'make quick', or name one by --rewind PATH")
