@@ -9,6 +9,7 @@ import shutil
 import subprocess
 import sys
 import tarfile
+import time
 from collections.abc import Callable
 from pathlib import Path
 
@@ -105,11 +106,24 @@ def test_workers(machine: list[str], tmp_path: Path) -> None:
     """Workers take the steps that are granted, where the machine has threads; for Node none can be started."""
     source = tmp_path / "counting.go"
     source.write_text(COUNTING, encoding="utf-8")
-    done = said([*machine, "--workers", "2", str(source)], b"free 1000\n" + b"log\n" * 200)
+    words = [*machine, "--workers", "2", str(source)]
     if machine[0] == "node":
-        assert done.returncode != 0
-    else:
-        assert done.returncode == 0 and b"ok 1000" in done.stdout
+        assert said(words, b"quit\n").returncode != 0
+        return
+    with subprocess.Popen(words, stdin=subprocess.PIPE, stdout=subprocess.PIPE, text=True) as child:
+        assert child.stdin and child.stdout
+        asked, told = "free 1000\n", ""
+        for _ in range(SECONDS * 10):
+            child.stdin.write(f"{asked}log\n")
+            child.stdin.flush()
+            asked = ""
+            while not (told := child.stdout.readline()).startswith("ok ") or told == "ok\n":
+                pass
+            if told == "ok 1000\n":
+                break
+            time.sleep(0.1)
+        child.stdin.close()
+        assert (child.wait(SECONDS), told) == (0, "ok 1000\n")
 
 
 def unpacked(package: Path, folder: Path) -> Path:
@@ -152,7 +166,7 @@ def test_a_wheel(kind: str, find: Find, tmp_path: Path) -> None:
     """That for any machine has the program for Node."""
     needs("node")
     programs = made_environment(tmp_path / "env", find(f"rewind_clients-*{kind}.whl"))
-    environment = {"PATH": f"{programs}:/usr/bin:/bin", "HOME": str(tmp_path)}
+    environment = {"PATH": f"{programs}:/usr/bin:/bin:{Path(str(shutil.which('node'))).parent}", "HOME": str(tmp_path)}
     words = [str(programs / "rewind-shell"), str(EXAMPLES / "lock_order.go")]
     done = subprocess.run(words, input=b"run 100\nwhy\nquit\n", capture_output=True, env=environment, timeout=SECONDS, check=False)
     assert b"g0.1 waits for g0.2" in done.stdout, done.stdout + done.stderr

@@ -70,7 +70,9 @@ def made(programs: dict[str, str], node: str, time: int) -> dict[str, bytes]:
             (work / folder).mkdir()
         top = sources(work)
         bare = maker.plain(top, work / "plain")
-        shutil.copy(node, top / "clients/rewind_client/rewind.mjs")
+        beside = top / "clients/rewind_client/rewind.mjs"
+        shutil.copy(node, beside)
+        beside.chmod(0o755)
         wheels = [maker.plain(top, work / "any")]
         wheels += [maker.with_program(bare, work / machine, program, PLATFORMS[machine]) for machine, program in programs.items()]
         return {it.name: it.read_bytes() for it in wheels}
