@@ -6,7 +6,7 @@
 # line, and the status is 1 where one fails.
 set -eu
 if ! [ -f "${1:-}" ]; then
-  echo "tests: name the archive of a release, as tests/bare_debian.sh dist/rewind-1.1.0-x86_64-linux.tar.xz" >&2
+  echo "tests: name the archive of a release, as tests/bare_debian.sh dist/rewind-1.2.0-x86_64-linux.tar.xz" >&2
   exit 2
 fi
 archive=$(realpath "$1")

@@ -1,6 +1,6 @@
 """The files of the committed release, if there is one.
 
-The files and their sums are those that SHA256SUMS and README.md tell. Archive, program and CHANGELOG.md have one version. The
+The files and their sums are those that SHA256SUMS and README.md tell. Archives, program and CHANGELOG.md have one version. The
 words of the program, the manual page, the extension and the package of the clients have that one too, or all a later one that is
 not released (1.2.0-dev). README.md names the commit and the toolchain that the archive names, and git has that commit before the
 present one.
@@ -21,6 +21,7 @@ from support.places import TOP
 
 DIST = TOP / "dist"
 ARCHIVE = re.compile(r"rewind-(\d+\.\d+\.\d+)-x86_64-linux\.tar\.xz")
+MOST_OF_ALL = 12_000_000
 ORIGIN = re.compile(r"from commit `([0-9a-f]{40})` of [\w ]+, with the toolchain `(\S+ logic [0-9a-f]{16})`")
 RELEASED = r"^## (\d+\.\d+\.\d+)$"
 # Where the version of the repository stands.
@@ -79,14 +80,23 @@ def unpacked(archive: Path, tmp_path_factory: pytest.TempPathFactory) -> Path:
     return folder / top
 
 
-def test_the_files_are_a_page_and_an_archive_with_their_sums_and_a_readme(archive: Path) -> None:
-    assert sorted(os.listdir(DIST)) == sorted([archive.name, "rewind.html", "README.md", "SHA256SUMS"])
+def files_of(version: str) -> list[str]:
+    """The files of a release, in the order in which their sums are told."""
+    machines = [f"rewind-{version}-{it}-linux.tar.xz" for it in ("x86_64", "arm64")]
+    packages = [f"rewind_{version}_{it}.deb" for it in ("amd64", "arm64")]
+    wheels = [f"rewind_clients-{version}-py3-none-{it}.whl" for it in ("any", "manylinux2014_x86_64", "manylinux2014_aarch64")]
+    return [*machines, *packages, "rewind.mjs", *wheels, "rewind-documents.html", "rewind.html", "rewind.spdx.json"]
+
+
+def test_the_files_are_those_of_a_release(archive: Path) -> None:
+    assert sorted(os.listdir(DIST)) == sorted([*files_of(version_of(archive)), "README.md", "SHA256SUMS"])
 
 
 def test_sums_and_sizes(archive: Path, told: str) -> None:
-    files = [archive, DIST / "rewind.html"]
+    files = [DIST / name for name in files_of(version_of(archive))]
     sums = {path: hashlib.sha256(path.read_bytes()).hexdigest() for path in files}
     assert read(DIST / "SHA256SUMS") == "".join(f"{sums[path]}  {path.name}\n" for path in files)
+    assert sum(path.stat().st_size for path in files) < MOST_OF_ALL
     for path in files:
         assert f"| `{path.name}` | {path.stat().st_size:,} | `{sums[path]}` |" in told
 
