@@ -1,6 +1,6 @@
 //! What the program says in plain words. Made by words/make.py from the texts beside it: change those.
 
-pub(crate) const VERSION: &str = "1.2.0";
+pub(crate) const VERSION: &str = "1.3.0-dev";
 
 pub(crate) const ABOUT: &str = "\
 Debugs a program in a small Go with goroutines and channels, one step at a
@@ -110,7 +110,7 @@ this line is not a command (rewind --help lists the commands)
 ";
 
 pub(crate) const BANNER: &str = "\
-Rewind 1.2.0: a command a line, such as 'run 100', 'show g0', 'undo'; 'quit' ends the session, 'rewind --help' lists them all.
+Rewind 1.3.0-dev: a command a line, such as 'run 100', 'show g0', 'undo'; 'quit' ends the session, 'rewind --help' lists them all.
 (rewind) ";
 
 /// What is said of arguments that are not UTF-8.
