@@ -1,0 +1,7 @@
+//! A machine that goes to where the first steps of another machine of its program lead.
+#![tactic(auto)]
+
+pub mod following;
+mod moving;
+
+pub use following::follow;
