@@ -5,6 +5,7 @@ ghost use Rattle.gr_lines.specs.Devices.{change, device_of, Fails, NeverFails};
 ghost use Rattle.gr_serve.specs.Debug.{SourceRead, ReadInPart, Opened, Accepted, SourceLeft, Debugged, DebugLeft};
 ghost use Rattle.gr_serve.specs.Debug.{BlamesSource, BlamesDevice};
 ghost use Rattle.gr_serve.specs.Debug as spec;
+ghost use Rattle.gr_session.specs.Source.{IsProgramOf};
 
 use crate::stream::{ServeFault, serve};
 use gr_lines::counted::{Counted, LineError};
@@ -70,8 +71,32 @@ fn reading_fault(error: LineError) -> DebugFault
     }
 }
 
-/// Reads the source, and opens a session of its program. The faults are those of `debug` where no session was opened: `Source`,
-/// `Open`, and `Serve` where it was out of memory.
+/// Reads the source into `text`, which is empty, and opens a session of its program. The faults are those of `debug` where no
+/// session was opened: `Source`, `Open`, and `Serve` where it was out of memory.
+pub fn open_text<S: Read>(
+    alloc: Global,
+    source: &mut Counted<S>,
+    text: &mut Vec<u8>,
+) -> Result<Session, DebugFault>
+    requires { length text.old.items ≡ 0 }
+    ensures program { IfOk result (λ session.
+        Opened (S.remaining (device_of source.old)) (S.remaining (device_of source.new)) (program_of session.program)) }
+    ensures text { IfOk result (λ session. IsProgramOf text.new.items (program_of session.program)) }
+    ensures empty { IfOk result (λ session. (session.journal ≡ []) × (session.askers ≡ 0)) }
+    ensures err { IfErr result (λ fault. SourceLeft fault (change S.remaining source.old source.new)) }
+    ensures same { OnOk result (NeverFails (change S.remaining source.old source.new)) }
+    ensures source { IfErr result (λ fault. BlamesSource fault (change S.remaining source.old source.new)) }
+{
+    if let Err(error) = read_source(source, text) {
+        return Err(reading_fault(error));
+    }
+    match Session::open(alloc, text.as_slice()) {
+        Ok(session) => Ok(session),
+        Err(error) => Err(DebugFault::Open(error)),
+    }
+}
+
+/// Reads the source, and opens a session of its program, as `open_text` does. The text is let go.
 pub fn open_source<S: Read>(alloc: Global, source: &mut Counted<S>) -> Result<Session, DebugFault>
     ensures program { IfOk result (λ session.
         Opened (S.remaining (device_of source.old)) (S.remaining (device_of source.new)) (program_of session.program)) }
@@ -81,13 +106,7 @@ pub fn open_source<S: Read>(alloc: Global, source: &mut Counted<S>) -> Result<Se
     ensures source { IfErr result (λ fault. BlamesSource fault (change S.remaining source.old source.new)) }
 {
     let mut text = Vec::new(alloc);
-    if let Err(error) = read_source(source, &mut text) {
-        return Err(reading_fault(error));
-    }
-    match Session::open(alloc, text.as_slice()) {
-        Ok(session) => Ok(session),
-        Err(error) => Err(DebugFault::Open(error)),
-    }
+    open_text(alloc, source, &mut text)
 }
 
 /// Reads the source, and tells whether it is accepted: whether it has a program. A refusal says why it has none, in the sense of
