@@ -23,7 +23,7 @@ pub use identifier::Identifier;
 pub use read::read_command;
 pub use refusal::Refusal;
 pub use reply::{ChannelShown, FrameShown, GoroutineShown, Reply, RunEnd, Status};
-pub use request::{Query, Request, read_request};
+pub use request::{Query, Request, View, read_request};
 pub use step_list::StepList;
 pub use target::Target;
 pub use write::write_reply;

@@ -1,3 +1,6 @@
+mod Sources
 mod Rows
+mod Showing
+mod ClientLemmas
 mod Replying
 mod SoFar

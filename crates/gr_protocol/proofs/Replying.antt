@@ -6,7 +6,7 @@ use Rattle.serde_json.specs.Written.{compact_text, has_float}
 use Rattle.gr_command.specs.declared.command.Command.{Command as Asked}
 use Rattle.gr_command.specs.declared.command.Line.TheVariants.{Command, Quit, Blank, Rejected}
 use Rattle.gr_command.specs.declared.request.Query.{Query}
-use Rattle.gr_command.specs.declared.request.Query.TheVariants.{Step, Places}
+use Rattle.gr_command.specs.declared.request.Query.TheVariants.{Step, Places, At}
 use Rattle.gr_command.specs.declared.request.Request.{Request}
 use Rattle.gr_command.specs.declared.request.Request.TheVariants.{Ask, Say}
 use Rattle.gr_facts.specs.Views.{facts_in}
@@ -46,16 +46,17 @@ asked_plain : (p : Program) (log : List (Logged p)) (query : Query) (d : Data) �
 asked_plain p log (Step id) d tells = subst {_, _} IsPlain (sym tells.is) (about_plain (row_of tells.row) None)
 asked_plain p log (Places first last) d tells =
     subst {_, _} IsPlain (sym tells.is) (about_plain (map facts_in tells.rows) (next_place first last (length tells.rows)))
+asked_plain p log (At steps view) d tells = subst {_, _} IsPlain (sym tells.is) (said_plain tells.said)
 
 tells_plain : (p : Program) (journal : List Entry) (query : Query) (d : Data) → Tells p journal query d → IsPlain d
 tells_plain p journal query d tells = asked_plain p (course_of p tells.world).past.log query d tells.holds
 
 -- the answer to a query is written as a line
-pub query_told : {T E : Type 0} (p : Program) (asker : ℕ) (query : Query) (journal : List Entry) (r : Result T E) (v : Data) (before after : List ℕ)
-    → Tells p journal query v → before ≡ [] → OnOk r (has_float v ≡ false → after ≡ before ++ (compact_text v ++ codes "\n"))
-    → OnOk r (Answers p asker (Ask query) journal journal after)
-query_told p asker query journal r v before after tells none h =
-    IfOk-weaker r _ _ (λ _ is. (refl, (v, tells, only_line before after (line_text v) none (is (tells_plain p journal query v tells))))) h
+pub query_told : {T E : Type 0} (p : Program) (asker : ℕ) (query : Query) (journal new : List Entry) (r : Result T E) (v : Data) (before after : List ℕ)
+    → new ≡ journal → Tells p journal query v → before ≡ [] → OnOk r (has_float v ≡ false → after ≡ before ++ (compact_text v ++ codes "\n"))
+    → OnOk r (Answers p asker (Ask query) journal new after)
+query_told p asker query journal new r v before after same tells none h =
+    IfOk-weaker r _ _ (λ _ is. (same, (v, tells, only_line before after (line_text v) none (is (tells_plain p journal query v tells))))) h
 
 -- nothing is left of a line that was not asked
 pub nothing_left : (p : Program) (asker : ℕ) (request : Request) (journal : List Entry) → Leaves p asker request journal journal

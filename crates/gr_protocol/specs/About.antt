@@ -1,9 +1,9 @@
--- What is told of steps that are kept.
+-- What is told of steps that are kept, and of the states to which they led.
 use Rattle.std.specs.Prelude.{◌≡◌, ◌≤◌, ◌+◌, ◌-◌, ◌==◌, ◌&&◌, ◌⊎◌, ℕ, suc, nat_le, min, List, [], ◌∷◌, length, map, Option, Some, None, if◌then◌else◌, codes}
 use Rattle.serde_json.specs.Data.{Data}
 use Rattle.gr_base.specs.declared.names.StepId.{StepId}
 use Rattle.gr_command.specs.declared.request.Query.{Query}
-use Rattle.gr_command.specs.declared.request.Query.TheVariants.{Step, Places}
+use Rattle.gr_command.specs.declared.request.Query.TheVariants.{Step, Places, At}
 use Rattle.gr_facts.specs.Asked.{TellsOf, TellsNamed}
 use Rattle.gr_facts.specs.Facts.{Facts}
 use Rattle.gr_facts.specs.Views.{facts_in}
@@ -12,6 +12,7 @@ use Rattle.gr_json.specs.Facts.{facts_data}
 use Rattle.gr_json.specs.Parts.{count, list, perhaps, fields}
 use Rattle.gr_laws.specs.Reached.{Logged}
 use Rattle.gr_program.specs.Programs.{Program}
+use Rattle.gr_protocol.specs.Earlier.{TellsAt}
 
 -- rows of facts, and the place from which there may be more
 abbrev pub about_data : List Facts → Option ℕ → Data
@@ -59,3 +60,4 @@ pub record TellsStep (p : Program) (log : List (Logged p)) (id : StepId) (d : Da
 abbrev pub TellsAsked : (p : Program) → List (Logged p) → Query → Data → Type 0
 TellsAsked p log (Step id) d = TellsStep p log id d
 TellsAsked p log (Places first last) d = TellsPlaces p log first last d
+TellsAsked p log (At steps view) d = TellsAt p log steps view d

@@ -36,11 +36,11 @@ answer_data NoMemory = without_entry (codes "Q2") (codes "no Q2\n")
 abbrev pub rejected_data : Data
 rejected_data = fields (
     (codes "error", string (codes "bad request"))
-    ∷ (codes "expected", string (codes "a command, or: about G#N, about FROM TO"))
+    ∷ (codes "expected", string (codes "a command, or: about G#N, about FROM TO, or: at N with show G, chan C, text G or console"))
     ∷ (codes "text", string (codes "? bad command\n"))
     ∷ [])
 
--- the answer to a query: where the journal leads, it tells of the steps that are kept
+-- the answer to a query: where the journal leads, it tells of the steps that are kept, or of a state to which they led
 abbrev pub Tells : Program → List Entry → Query → Data → Type 0
 Tells p journal query d = InItsWorld p journal (λ w. TellsAsked p (course_of p w).past.log query d)
 

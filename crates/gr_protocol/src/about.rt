@@ -3,22 +3,18 @@
 ghost use Rattle.std.specs.Prelude.{◌≡◌, ◌∷◌, [], ◌+◌, ◌<◌, ◌^◌, codes, IfOk, map};
 ghost use Rattle.serde_json.specs.View.{view};
 ghost use Rattle.gr_program.specs.Programs.{Program};
-ghost use Rattle.gr_program.specs.Views.{program_of};
 ghost use Rattle.gr_rollback.specs.Machines.{Stands};
 ghost use Rattle.gr_rollback.specs.Pasts.{Timeline};
 ghost use Rattle.gr_facts.specs.Views.{facts_in};
 ghost use Rattle.gr_json.specs.Parts.{fields};
 ghost use Rattle.gr_protocol.specs.About.{TellsFrom, TellsAsked, about_data, rows_between as rows_asked, next_place as place_left};
 ghost use Rattle.gr_command.specs.declared.request.Query.TheVariants.{Step, Places};
-ghost use Rattle.gr_protocol.specs.Answers.{Tells};
 
 use gr_base::{NoMemory, StepId};
-use gr_command::Query;
 use gr_facts::{Facts, about, about_at};
 use gr_json::Told;
 use gr_json::parts::{list, perhaps};
 use gr_rollback::Machine;
-use gr_session::Session;
 use serde_json::{Value, json};
 use std::alloc::{AllocError, Global};
 use std::slice;
@@ -65,7 +61,7 @@ fn rows_value(alloc: Global, rows: &[Facts], next: Option<u32>) -> Result<Value,
 }
 
 /// What is told of the step of a name.
-fn about_step(alloc: Global, machine: &Machine, id: &StepId) -> Result<Value, NoMemory>
+pub(crate) fn about_step(alloc: Global, machine: &Machine, id: &StepId) -> Result<Value, NoMemory>
     ensures { IfOk result (λ value. (p : Program) (w : Timeline p) → Stands p w machine.now
         → TellsAsked p w.past.log (Step id.now) (view value)) }
 {
@@ -100,7 +96,12 @@ fn next_place(first: u32, last: u32, rows: usize) -> Option<u32>
 }
 
 /// What is told of the steps from one place to another, both counted from 1.
-fn about_places(alloc: Global, machine: &Machine, first: u32, last: u32) -> Result<Value, NoMemory>
+pub(crate) fn about_places(
+    alloc: Global,
+    machine: &Machine,
+    first: u32,
+    last: u32,
+) -> Result<Value, NoMemory>
     ensures { IfOk result (λ value. (p : Program) (w : Timeline p) → Stands p w machine.now
         → TellsAsked p w.past.log (Places first last) (view value)) }
 {
@@ -108,15 +109,4 @@ fn about_places(alloc: Global, machine: &Machine, first: u32, last: u32) -> Resu
     let rows = rows_from(alloc, machine, place, rows_between(first, last))?;
     let next = next_place(first, last, rows.len());
     rows_value(alloc, rows.as_slice(), next)
-}
-
-/// The answer to a query. The session is as it was.
-pub fn told(alloc: Global, session: &Session, query: &Query) -> Result<Value, NoMemory>
-    ensures { IfOk result (λ value. Tells (program_of session.now.program) session.now.journal query.now (view value)) }
-{
-    let machine = session.machine();
-    match query {
-        Query::Step(id) => about_step(alloc, machine, id),
-        Query::Places(first, last) => about_places(alloc, machine, *first, *last),
-    }
 }

@@ -5,14 +5,16 @@ ghost use Rattle.serde_json.specs.View.{view};
 ghost use Rattle.gr_program.specs.Views.{program_of};
 ghost use Rattle.gr_command.specs.Requests.{request_meant};
 ghost use Rattle.gr_serve.specs.Replies.{answer_of};
+ghost use Rattle.gr_protocol.specs.Clients.{IsClient, RemainsClient};
 ghost use Rattle.gr_protocol.specs.Answers.{Answers, Leaves, Replies, is_quit as ends_session, answer_data, rejected_data, without_entry as refused_data, line_text};
 
-use crate::about::told;
+use crate::client::Client;
+use crate::telling::told;
 use gr_base::NoMemory;
 use gr_command::{Command, Line, Reply, Request, read_request};
 use gr_json::replies::said;
 use gr_json::write_line;
-use gr_session::{AskRefused, DeskId, Receipt, Session};
+use gr_session::{AskRefused, Receipt};
 use serde_json::{Value, json};
 use std::alloc::Global;
 
@@ -22,7 +24,7 @@ fn rejected(alloc: Global) -> Result<Value, NoMemory>
 {
     Ok(json!(in alloc; {
             "error": "bad request",
-            "expected": "a command, or: about G#N, about FROM TO",
+            "expected": "a command, or: about G#N, about FROM TO, or: at N with show G, chan C, text G or console",
             "text": "? bad command\n"
         })?)
 }
@@ -60,40 +62,33 @@ fn put_reply(
 /// Asks a command of the session for this desk.
 fn ask(
     alloc: Global,
-    session: &mut Session,
-    desk: DeskId,
+    client: &mut Client,
     command: Command,
     text: &mut Vec<u8>,
 ) -> Result<(), NoMemory>
-    requires desk { (1 ≤ desk.number) × (desk.number ≤ session.old.askers) }
+    requires client { IsClient client.old }
     requires empty { text.old.items ≡ [] }
-    ensures ok { OnOk result (Replies (program_of session.old.program) desk.number (Line.Command command)
-        session.old.journal session.new.journal text.new.items) }
-    ensures err { OnErr result (Leaves (program_of session.old.program) desk.number (Request.Say (Line.Command command))
-        session.old.journal session.new.journal) }
-    ensures others { (session.new.program ≡ session.old.program) × (session.new.askers ≡ session.old.askers) }
+    ensures ok { OnOk result (Replies (program_of client.old.session.program) client.old.desk.number (Line.Command command)
+        client.old.session.journal client.new.session.journal text.new.items) }
+    ensures err { OnErr result (Leaves (program_of client.old.session.program) client.old.desk.number
+        (Request.Say (Line.Command command)) client.old.session.journal client.new.session.journal) }
+    ensures client { RemainsClient client.old client.new }
 {
-    match session.ask(alloc, desk, command) {
+    match client.session.ask(alloc, client.desk, command) {
         Ok(receipt) => put_reply(alloc, text, Ok(&receipt)),
         Err(why) => put_reply(alloc, text, Err(why)),
     }
 }
 
 /// Answers what a line says as a command.
-fn reply(
-    alloc: Global,
-    session: &mut Session,
-    desk: DeskId,
-    line: Line,
-    text: &mut Vec<u8>,
-) -> Result<(), NoMemory>
-    requires desk { (1 ≤ desk.number) × (desk.number ≤ session.old.askers) }
+fn reply(alloc: Global, client: &mut Client, line: Line, text: &mut Vec<u8>) -> Result<(), NoMemory>
+    requires client { IsClient client.old }
     requires empty { text.old.items ≡ [] }
-    ensures ok { OnOk result (Replies (program_of session.old.program) desk.number line
-        session.old.journal session.new.journal text.new.items) }
-    ensures err { OnErr result (Leaves (program_of session.old.program) desk.number (Request.Say line)
-        session.old.journal session.new.journal) }
-    ensures others { (session.new.program ≡ session.old.program) × (session.new.askers ≡ session.old.askers) }
+    ensures ok { OnOk result (Replies (program_of client.old.session.program) client.old.desk.number line
+        client.old.session.journal client.new.session.journal text.new.items) }
+    ensures err { OnErr result (Leaves (program_of client.old.session.program) client.old.desk.number (Request.Say line)
+        client.old.session.journal client.new.session.journal) }
+    ensures client { RemainsClient client.old client.new }
 {
     match line {
         Line::Blank => Ok(()),
@@ -105,32 +100,31 @@ fn reply(
             let value = said(alloc, &Reply::Acknowledged)?;
             write_line(alloc, text, &value)
         }
-        Line::Command(command) => ask(alloc, session, desk, command, text),
+        Line::Command(command) => ask(alloc, client, command, text),
     }
 }
 
 /// Answers what a line asks, and puts the answer into `text`, which is empty.
 fn answer(
     alloc: Global,
-    session: &mut Session,
-    desk: DeskId,
+    client: &mut Client,
     request: Request,
     text: &mut Vec<u8>,
 ) -> Result<(), NoMemory>
-    requires desk { (1 ≤ desk.number) × (desk.number ≤ session.old.askers) }
+    requires client { IsClient client.old }
     requires empty { text.old.items ≡ [] }
-    ensures ok { OnOk result (Answers (program_of session.old.program) desk.number request
-        session.old.journal session.new.journal text.new.items) }
-    ensures err { OnErr result (Leaves (program_of session.old.program) desk.number request
-        session.old.journal session.new.journal) }
-    ensures others { (session.new.program ≡ session.old.program) × (session.new.askers ≡ session.old.askers) }
+    ensures ok { OnOk result (Answers (program_of client.old.session.program) client.old.desk.number request
+        client.old.session.journal client.new.session.journal text.new.items) }
+    ensures err { OnErr result (Leaves (program_of client.old.session.program) client.old.desk.number request
+        client.old.session.journal client.new.session.journal) }
+    ensures client { RemainsClient client.old client.new }
 {
     match request {
         Request::Ask(query) => {
-            let value = told(alloc, session, &query)?;
+            let value = told(alloc, client, &query)?;
             write_line(alloc, text, &value)
         }
-        Request::Say(line) => reply(alloc, session, desk, line, text),
+        Request::Say(line) => reply(alloc, client, line, text),
     }
 }
 
@@ -141,29 +135,27 @@ fn is_quit(request: &Request) -> bool
     matches!(request, Request::Say(Line::Quit))
 }
 
-/// Answers one line of a client for the desk, whose number `enrol` of the session gave. The answer, a line of JSON, replaces what
-/// `text` held; a blank line has none. A command is an entry of the journal, a query is not. It answers whether the line was
-/// `quit`.
+/// Answers one line of a client. The answer, a line of JSON, replaces what `text` held; a blank line has none. A command is an
+/// entry of the journal, a query is not. It answers whether the line was `quit`.
 ///
 /// The one error is out of memory. A command may then have been asked.
 pub fn answer_line(
     alloc: Global,
-    session: &mut Session,
-    desk: DeskId,
+    client: &mut Client,
     line: &[u8],
     text: &mut Vec<u8>,
 ) -> Result<bool, NoMemory>
-    requires { (1 ≤ desk.number) × (desk.number ≤ session.old.askers) }
-    ensures ok { OnOk result (Answers (program_of session.old.program) desk.number (request_meant line.now)
-        session.old.journal session.new.journal text.new.items) }
+    requires { IsClient client.old }
+    ensures ok { OnOk result (Answers (program_of client.old.session.program) client.old.desk.number (request_meant line.now)
+        client.old.session.journal client.new.session.journal text.new.items) }
     ensures quit { IfOk result (λ quit. quit ≡ ends_session (request_meant line.now)) }
-    ensures err { OnErr result (Leaves (program_of session.old.program) desk.number (request_meant line.now)
-        session.old.journal session.new.journal) }
-    ensures others { (session.new.program ≡ session.old.program) × (session.new.askers ≡ session.old.askers) }
+    ensures err { OnErr result (Leaves (program_of client.old.session.program) client.old.desk.number (request_meant line.now)
+        client.old.session.journal client.new.session.journal) }
+    ensures client { RemainsClient client.old client.new }
 {
     let request = read_request(alloc, line)?;
     let quit = is_quit(&request);
     text.clear();
-    answer(alloc, session, desk, request, text)?;
+    answer(alloc, client, request, text)?;
     Ok(quit)
 }

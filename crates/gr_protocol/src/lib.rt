@@ -3,7 +3,11 @@
 
 pub mod about;
 pub mod answering;
+pub mod client;
+mod earlier;
 pub mod serving;
+mod telling;
 
 pub use answering::answer_line;
+pub use client::Client;
 pub use serving::serve;

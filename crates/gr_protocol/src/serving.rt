@@ -7,13 +7,14 @@ ghost use Rattle.gr_lines.specs.Devices.{change, NeverFails};
 ghost use Rattle.gr_serve.specs.Debug.{BlamesDevice};
 ghost use Rattle.gr_serve.specs.Fault.{BlamesWriter};
 ghost use Rattle.gr_protocol.specs.Answers.{is_quit};
+ghost use Rattle.gr_protocol.specs.Clients.{IsClient, RemainsClient};
 ghost use Rattle.gr_protocol.specs.Streams.{LineAnswered, Converses, Debugged, Unserved};
 
 use crate::answering::answer_line;
+use crate::client::Client;
 use gr_lines::counted::{Counted, LineEnd, LineError, read_line};
-use gr_serve::debug::{DebugFault, open_source};
+use gr_serve::debug::{DebugFault, open_text};
 use gr_serve::stream::ServeFault;
-use gr_session::{DeskId, Session};
 use std::alloc::Global;
 use std::io::{BufRead, Read, Write};
 use std::mem;
@@ -21,21 +22,20 @@ use std::mem;
 /// Answers one line, and writes the answer. Whether the line was `quit`.
 fn serve_line<W: Write>(
     alloc: Global,
-    session: &mut Session,
-    desk: DeskId,
+    client: &mut Client,
     line: &[u8],
     text: &mut Vec<u8>,
     writer: &mut Counted<W>,
 ) -> Result<bool, ServeFault>
-    requires { (1 ≤ desk.number) × (desk.number ≤ session.old.askers) }
-    ensures answered { OnOk result (LineAnswered (program_of session.old.program) desk.number line.now
-        session.old.journal session.new.journal (change W.contents writer.old writer.new)) }
+    requires { IsClient client.old }
+    ensures answered { OnOk result (LineAnswered (program_of client.old.session.program) client.old.desk.number line.now
+        client.old.session.journal client.new.session.journal (change W.contents writer.old writer.new)) }
     ensures quit { IfOk result (λ quit. quit ≡ is_quit (request_meant line.now)) }
     ensures same { OnOk result (NeverFails (change W.contents writer.old writer.new)) }
     ensures blames { IfErr result (λ fault. BlamesWriter fault (change W.contents writer.old writer.new)) }
-    ensures others { (session.new.program ≡ session.old.program) × (session.new.askers ≡ session.old.askers) }
+    ensures client { RemainsClient client.old client.new }
 {
-    let Ok(quit) = answer_line(alloc, session, desk, line, text) else {
+    let Ok(quit) = answer_line(alloc, client, line, text) else {
         return Err(ServeFault::Memory);
     };
     match writer.put(text.as_slice()) {
@@ -48,15 +48,15 @@ fn serve_line<W: Write>(
 /// read. What the answer to a line is, `answer_line` says. A fault names the device that failed, or is out of memory.
 pub fn serve<R: BufRead, W: Write>(
     alloc: Global,
-    session: &mut Session,
-    desk: DeskId,
+    client: &mut Client,
     reader: &mut Counted<R>,
     writer: &mut Counted<W>,
 ) -> Result<(), ServeFault>
-    requires { (1 ≤ desk.number) × (desk.number ≤ session.old.askers) }
-    ensures answered { Converses (program_of session.old.program) desk.number session.old.journal session.new.journal result
+    requires { IsClient client.old }
+    ensures answered { Converses (program_of client.old.session.program) client.old.desk.number
+        client.old.session.journal client.new.session.journal result
         (change R.remaining reader.old reader.new) (change W.contents writer.old writer.new) }
-    ensures others { (session.new.program ≡ session.old.program) × (session.new.askers ≡ session.old.askers) }
+    ensures client { RemainsClient client.old client.new }
 {
     let mut line = Vec::new(alloc);
     let mut text = Vec::new(alloc);
@@ -69,13 +69,13 @@ pub fn serve<R: BufRead, W: Write>(
                 if line.is_empty() {
                     return Ok(());
                 }
-                match serve_line(alloc, session, desk, line.as_slice(), &mut text, writer) {
+                match serve_line(alloc, client, line.as_slice(), &mut text, writer) {
                     Err(fault) => return Err(fault),
                     Ok(_) => return Ok(()),
                 }
             }
             Ok(LineEnd::Newline) => {
-                match serve_line(alloc, session, desk, line.as_slice(), &mut text, writer) {
+                match serve_line(alloc, client, line.as_slice(), &mut text, writer) {
                     Err(fault) => return Err(fault),
                     Ok(true) => return Ok(()),
                     Ok(false) => {}
@@ -102,7 +102,8 @@ pub fn debug<S: Read, R: BufRead, W: Write>(
     ensures blames { IfErr result (λ fault. BlamesDevice fault (change S.remaining source.old source.new)
         (change R.remaining reader.old reader.new) (change W.contents writer.old writer.new)) }
 {
-    let mut session = match open_source(alloc, source) {
+    let mut text = Vec::new(alloc);
+    let mut session = match open_text(alloc, source, &mut text) {
         Ok(session) => session,
         Err(fault) => return Err(fault),
     };
@@ -110,9 +111,15 @@ pub fn debug<S: Read, R: BufRead, W: Write>(
         Ok(desk) => desk,
         Err(_) => return Err(DebugFault::Serve(ServeFault::Memory)),
     };
-    let served = serve(alloc, &mut session, desk, reader, writer);
-    // Taking its log apart would take as long as a tenth of its steps took.
-    mem::forget(session);
+    let mut client = Client {
+        session,
+        desk,
+        source: text,
+        follower: None,
+    };
+    let served = serve(alloc, &mut client, reader, writer);
+    // Taking its logs apart would take as long as a tenth of their steps took.
+    mem::forget(client);
     match served {
         Ok(()) => Ok(()),
         Err(fault) => Err(DebugFault::Serve(fault)),

@@ -36,7 +36,7 @@ pub returns-in-Ok-clause-answered : goal.returns-in-Ok-clause-answered
 returns-in-Ok-clause-answered g c =
     let read : LineRead (g.R.Read.remaining (device_of c.loop-text.reader)) (g.R.Read.remaining (device_of c.read_line.new.reader)) c.read_line.new.line.items End = rw c.in-Ok-End.field-0-is at c.in-Ok-End.ensures.ok in
     let some : 0 < length c.read_line.new.line.items = rw (← c.as_slice.ensures.value) (not_empty _ _ _ c.is_empty.ensures c.if-is_empty.false c.as_slice.ensures.len) in
-    let line = rw (c.as_slice.ensures.value, c.loop-text.invariant.program) at c.in-Ok.ensures.answered in (
+    let line = rw (c.as_slice.ensures.value, c.loop-text.invariant.program, c.loop-text.invariant.desk) at c.in-Ok.ensures.answered in (
       ends_in_line _ _ _ _ _ _ _ _ _ _ _ _ _ c.loop-text.invariant.so_far line.answers line.written read some,
       (c.in-Ok-End.ensures.same ∙ c.loop-text.invariant.reads, c.in-Ok.ensures.same ∙ c.loop-text.invariant.writes),
     )
@@ -51,7 +51,7 @@ pub returns-in-Ok-true-clause-answered : goal.returns-in-Ok-true-clause-answered
 returns-in-Ok-true-clause-answered g c =
     let read : LineRead (g.R.Read.remaining (device_of c.loop-text.reader)) (g.R.Read.remaining (device_of c.read_line.new.reader)) c.read_line.new.line.items Newline = rw c.in-Ok-Newline.field-0-is at c.in-Ok-Newline.ensures.ok in
     let quit : is_quit (request_meant c.read_line.new.line.items) ≡ true = rw (← c.as_slice-in-Ok-Newline.ensures.value) (sym c.in-Ok-true.ensures.quit ∙ c.in-Ok-true.field-0-test) in
-    let line = rw (c.as_slice-in-Ok-Newline.ensures.value, c.loop-text.invariant.program) at c.in-Ok-true.ensures.answered in (
+    let line = rw (c.as_slice-in-Ok-Newline.ensures.value, c.loop-text.invariant.program, c.loop-text.invariant.desk) at c.in-Ok-true.ensures.answered in (
       ends_in_quit _ _ _ _ _ _ _ _ _ _ _ _ _ c.loop-text.invariant.so_far line.answers line.written read quit,
       (c.in-Ok-Newline.ensures.same ∙ c.loop-text.invariant.reads, c.in-Ok-true.ensures.same ∙ c.loop-text.invariant.writes),
     )
@@ -60,11 +60,12 @@ pub loop-text-preserved : goal.loop-text-preserved
 loop-text-preserved g c =
     let read : LineRead (g.R.Read.remaining (device_of c.loop-text.reader)) (g.R.Read.remaining (device_of c.read_line.new.reader)) c.read_line.new.line.items Newline = rw c.in-Ok-Newline.field-0-is at c.in-Ok-Newline.ensures.ok in
     let quit : is_quit (request_meant c.read_line.new.line.items) ≡ false = rw (← c.as_slice-in-Ok-Newline.ensures.value) (sym c.in-Ok-false.ensures.quit ∙ c.in-Ok-false.field-0-test) in
-    let line = rw (c.as_slice-in-Ok-Newline.ensures.value, c.loop-text.invariant.program) at c.in-Ok-false.ensures.answered in
+    let line = rw (c.as_slice-in-Ok-Newline.ensures.value, c.loop-text.invariant.program, c.loop-text.invariant.desk) at c.in-Ok-false.ensures.answered in
     record {
       so_far = so_far_line _ _ _ _ _ _ _ _ _ _ _ _ _ c.loop-text.invariant.so_far line.answers line.written read quit;
-      program = c.in-Ok-false.ensures.others.0 ∙ c.loop-text.invariant.program;
-      askers = c.in-Ok-false.ensures.others.1 ∙ c.loop-text.invariant.askers;
+      is = c.in-Ok-false.ensures.client.is;
+      program = c.in-Ok-false.ensures.client.program ∙ c.loop-text.invariant.program;
+      desk = c.in-Ok-false.ensures.client.desk ∙ c.loop-text.invariant.desk;
       reads = c.in-Ok-Newline.ensures.same ∙ c.loop-text.invariant.reads;
       writes = c.in-Ok-false.ensures.same ∙ c.loop-text.invariant.writes;
     }
