@@ -1,7 +1,7 @@
 """The protocol of clients: `rewind --json FILE` answers each line by a line of JSON.
 
 A command is answered as the plain program answers it, with the parts of its reply beside the text. A query makes no entry. What the
-program tells of steps is told by the model of tests/model, too.
+program tells of steps is told by the model of tests/model, too. What it shows of earlier states, a second session shows in its own.
 """
 from __future__ import annotations
 
@@ -18,6 +18,8 @@ from model.session import Session as Model
 from model.state import Step
 from support.places import EXAMPLES, SESSIONS
 from support.random_sessions import random_source, wander
+from support.replies import Step as Kept
+from support.replies import objects
 from support.session import Session
 
 SECONDS = 60
@@ -136,6 +138,75 @@ def test_long_answers_come_in_portions(rewind: str, tmp_path: Path) -> None:
     _, first, rest = told(rewind, source, ["run 2500", "about 1 2500", "about 2001 9999"])
     assert (len(first["about"]), first["next"]) == (1000, 1001)
     assert (len(rest["about"]), rest["next"]) == (500, None)
+
+
+def views_of(log: list[Kept]) -> list[str]:
+    """What may be asked of the states of a log, and of goroutines and channels that are not there."""
+    goroutines, channels = objects(log)
+    shown = [f"show {name}" for name in goroutines] + [f"text {name}" for name in goroutines] + [f"chan {name}" for name in channels]
+    return [*shown, "console", "show g0.9", "text g0.9", "chan g0/c9"]
+
+
+def shown_earlier(program: str, source: Path, log: list[Kept], steps: int) -> list[Told]:
+    """What a session shows that takes only so many of the steps."""
+    taken = [step.command() for step in log[:steps]]
+    return told(program, source, [*taken, *views_of(log)])[steps:]
+
+
+@pytest.mark.parametrize("number", range(RANDOM))
+def test_earlier_states_are_shown_as_they_were(begin: Any, rewind: str, tmp_path: Path, seed: int, number: int) -> None:
+    """Whatever was taken back, taken again or put in another order, and in whatever order the states are asked for."""
+    chance = random.Random(seed * 1000 + number)
+    text = random_source(chance)
+    session: Session = begin(text)
+    wander(chance, session)
+    log = session.log()
+    source = tmp_path / "earlier.go"
+    source.write_text(text, encoding="utf-8")
+    places = [chance.randint(0, len(log)) for _ in range(4)]
+    queries = [f"at {steps} {view}" for steps in places for view in views_of(log)]
+    told_here = told(rewind, source, [*session.script, *queries])[len(session.script) :]
+    assert told_here == [answer for steps in places for answer in shown_earlier(rewind, source, log, steps)]
+
+
+def test_earlier_states_are_shown_between_commands(rewind: str) -> None:
+    """The second machine goes with the log, wherever commands take that."""
+    source = EXAMPLES / "lock_order.go"
+    commands = ["run 40", "undo", "back g0.1#2", "redo", "run 3", "back g0#2", "run 9"]
+    lines: list[str] = []
+    expected: list[Told] = []
+    for command in commands:
+        lines.append(command)
+        log = [Kept(it["id"], it["kind"]) for it in told(rewind, source, [*lines, "log"])[-1]["reply"]["steps"]]
+        for steps in (len(log) // 2, len(log)):
+            lines += [f"at {steps} {view}" for view in views_of(log)]
+            expected += shown_earlier(rewind, source, log, steps)
+    answers = [answer for line, answer in zip(lines, told(rewind, source, lines)) if line.startswith("at ")]
+    assert answers == expected
+
+
+def test_an_earlier_state_changes_nothing(rewind: str) -> None:
+    answers = told(rewind, EXAMPLES / "lock_order.go", ["run 3", "undo", "at 1 show g0", "at 2 console", "redo", "log"])
+    assert answers[4]["reply"]["answer"] == "steps"
+    assert len(answers[5]["reply"]["steps"]) == 3
+
+
+def test_a_step_that_is_not_kept_has_no_state(rewind: str) -> None:
+    asked = ["run 3", "at 3 show g0", "at 4 show g0", "at 4294967295 console"]
+    _, last, beyond, far = told(rewind, EXAMPLES / "lock_order.go", asked)
+    assert last["reply"]["answer"] == "goroutine"
+    assert beyond == far == {"reply": {"answer": "refused", "code": "B2"}, "text": "no B2\n"}
+
+
+NO_COUNT = ["at", "at 1", "at x show g0", "at 01 show g0", "at 4294967296 console"]
+NO_VIEW = ["at 1 show", "at 1 show g0 1", "at 1 console 2", "at 1 log", "at 1 run 2"]
+
+
+@pytest.mark.parametrize("line", [*NO_COUNT, *NO_VIEW])
+def test_what_is_no_view_is_said(rewind: str, line: str) -> None:
+    (answer,) = told(rewind, EXAMPLES / "lock_order.go", [line])
+    assert answer["error"] == "bad request"
+    assert "at N with show G" in answer["expected"]
 
 
 @pytest.mark.parametrize("line", ["about", "about g0", "about 0 1", "about 1 2 3", "about 1 x", "tell", "about g0#1 2"])
