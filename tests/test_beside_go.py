@@ -32,6 +32,7 @@ from rewind_client.errors import SourceRefused
 from rewind_client.finding import start
 from rewind_client.meanings import DEADLOCK, FAULTS
 from rewind_client.program import read_program
+from rewind_client.replies import lines_within
 from rewind_hunt.schedules import End, Scheduler
 
 from support.forms import short_first
@@ -114,7 +115,7 @@ class Schedules:
         lines = tuple(core.console())
         if len(self.printers) < 2:
             texts = core.process.ask_all([f"text {name}" for name in schedule.goroutines])
-            self.printers |= {name for name, text in zip(schedule.goroutines, texts) if len(text) > 1}
+            self.printers |= {name for name, text in zip(schedule.goroutines, texts) if lines_within(text)}
         if schedule.end is End.FAULT:
             fault = schedule.entries[-1].kind.fault
             if fault in LIMITS:

@@ -6,10 +6,10 @@ from collections.abc import Callable, Sequence
 from typing import Optional, TypeVar
 
 from . import replies
-from .errors import MalformedReply, RewindError
+from .errors import RewindError
 from .meanings import meaning_of_refusal
 from .process import Process
-from .replies import Channel, Entry, Goroutine, KindWord, Ran, Reason
+from .replies import Channel, Entry, Goroutine, KindWord, Ran, Reason, Reply
 
 # Commands that take steps or take them back, and all that change what a session does.
 MOVING = frozenset(("step", "run", "undo", "back", "redo", "order"))
@@ -27,12 +27,12 @@ Found = TypeVar("Found")
 class Refused(RewindError):
     """A command was refused; the text says why, and `taken` names the steps that were done none the less."""
 
-    def __init__(self, command: str, reply: Sequence[str]) -> None:
-        super().__init__(meaning_of_refusal(reply[-1]))
+    def __init__(self, command: str, reply: Reply) -> None:
+        super().__init__(meaning_of_refusal(reply.last))
         self.command = command
-        self.reply = list(reply)
-        self.code = replies.code_of(reply)
-        self.taken = replies.steps(reply) if self.code == "B6" and reply[-1] != "no B6 0" else []
+        self.reply = reply
+        self.code = reply.code
+        self.taken = replies.steps_done(reply)
 
 
 def unnoted(_command: str) -> None:
@@ -56,12 +56,12 @@ class Core:
         self.end: Optional[Reason] = None
         self.end_taken_back: Optional[Reason] = None
 
-    def ask(self, command: str) -> list[str]:
-        """The lines of the reply to any command, whatever it says."""
+    def ask(self, command: str) -> Reply:
+        """The answer to any command, whatever it says."""
         return self.ask_all([command])[0]
 
-    def ask_all(self, commands: Sequence[str]) -> list[list[str]]:
-        """The replies to commands, asked in one go."""
+    def ask_all(self, commands: Sequence[str]) -> list[Reply]:
+        """The answers to commands, asked in one go."""
         for command in commands:
             if "\n" in command or not words_of(command):
                 raise RewindError("a command is one line that holds a word")
@@ -73,50 +73,42 @@ class Core:
                 self.changes += word in MOVING
         found = self.process.ask_all(commands)
         for command, reply in zip(commands, found):
-            self.checked(command, reply)
+            self.note(command, reply)
         return found
 
-    def checked(self, command: str, reply: Sequence[str]) -> None:
-        """Sees that a reply is one, and keeps account of the program's end."""
-        if not replies.is_reply(reply):
-            raise self.malformed(command, reply)
+    def note(self, command: str, reply: Reply) -> None:
+        """Keeps account of how a command moved the program."""
         word = first_word(command)
         if word in MOVING:
-            self.parsed(command, reply, lambda lines: self.note(word, lines))
+            self.parsed(command, reply, lambda told: self.take_account(word, told))
 
-    def note(self, word: str, reply: Sequence[str]) -> None:
+    def take_account(self, word: str, reply: Reply) -> None:
         """Keeps account of whether the log ends in a step that stopped the program, and whether `redo` would take one."""
-        done = replies.is_ok(reply)
-        self.kept += steps_taken(word, reply)
+        done, number = reply.is_ok, steps_taken(reply)
+        self.kept += -number if word in ("undo", "back") else number
         if word == "step" and done:
             self.end, self.end_taken_back = end_of_step(replies.stepped(reply)), None
-        elif word == "run" and done and replies.ran(reply).taken:
+        elif word == "run" and done and number:
             self.end, self.end_taken_back = end_of_run(replies.ran(reply)), None
-        elif word in ("undo", "back") and (done or len(reply[-1].split(" ")) > 3):
+        elif word in ("undo", "back") and number:
             self.end_taken_back, self.end = self.end, None
         elif word == "redo" and done:
             self.end, self.end_taken_back = self.end_taken_back, None
         elif word == "order" and done:
             self.end_taken_back = None
 
-    def malformed(self, command: str, reply: Sequence[str]) -> MalformedReply:
-        """A reply that means nothing ends the process, since no later one could be trusted."""
-        fault = MalformedReply(self.process.name, command, list(reply))
-        self.process.end(str(fault))
-        return fault
-
-    def parsed(self, command: str, reply: Sequence[str], read: Callable[[Sequence[str]], Found]) -> Found:
-        """What is read from a reply, where it has the form that the command's replies have."""
+    def parsed(self, command: str, reply: Reply, read: Callable[[Reply], Found]) -> Found:
+        """What is read from an answer, where it has the form that the command's answers have; else the process ends."""
         try:
             return read(reply)
-        except (IndexError, ValueError):
-            raise self.malformed(command, reply) from None
+        except (LookupError, TypeError, ValueError):
+            raise self.process.malformed(command, reply.last) from None
 
-    def asked(self, command: str, read: Callable[[Sequence[str]], Found]) -> Found:
-        """What is read from the reply to a command; Refused where the command is."""
+    def asked(self, command: str, read: Callable[[Reply], Found]) -> Found:
+        """What is read from the answer to a command; Refused where the command is."""
         reply = self.ask(command)
-        if not replies.is_ok(reply):
-            raise self.parsed(command, reply, lambda lines: Refused(command, lines))
+        if not reply.is_ok:
+            raise self.parsed(command, reply, lambda told: Refused(command, told))
         return self.parsed(command, reply, read)
 
     # What takes steps, or takes them back.
@@ -161,7 +153,7 @@ class Core:
         """The channel, or None where there is none of that name."""
         return self.known("chan " + name, lambda reply: replies.channel(name, reply))
 
-    def known(self, command: str, read: Callable[[Sequence[str]], Found]) -> Optional[Found]:
+    def known(self, command: str, read: Callable[[Reply], Found]) -> Optional[Found]:
         try:
             return self.asked(command, read)
         except Refused as refusal:
@@ -216,16 +208,13 @@ def step_command(entry: Entry) -> str:
     return step_words(entry.step.partition("#")[0], entry.kind.clause)
 
 
-def steps_taken(word: str, reply: Sequence[str]) -> int:
-    """How many steps a command took; below 0 where it took them back."""
-    if word == "order" or not (replies.is_ok(reply) or replies.code_of(reply) == "B6"):
-        return 0
-    words = reply[-1].split(" ")
-    if word in ("step", "undo") or words[0] == "no":
-        number = int(words[2]) if words[0] == "no" else 1
-    else:
-        number = int(words[1])
-    return -number if word in ("undo", "back") else number
+def steps_taken(reply: Reply) -> int:
+    """How many steps a command took, or took back."""
+    if reply.name in ("stepped", "undone"):
+        return 1
+    if reply.name == "ran":
+        return replies.ran(reply).taken
+    return len(replies.steps(reply)) if reply.name in ("steps", "partly") else 0
 
 
 def end_of_step(entry: Entry) -> Optional[Reason]:

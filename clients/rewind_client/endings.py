@@ -71,9 +71,9 @@ class Rest:
         """Takes steps, some of which may be refused."""
         taken = []
         for command, reply in zip(commands, self.session.core.ask_all(commands)):
-            if replies.is_ok(reply):
+            if reply.is_ok:
                 taken.append(replies.stepped(reply))
-            elif replies.code_of(reply) == "N4":
+            elif reply.code == "N4":
                 self.done.add(command.split(" ")[1])
         for entry in taken:
             if entry.kind.word is KindWord.GO:

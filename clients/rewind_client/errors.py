@@ -21,11 +21,8 @@ class Cancelled(RewindError):
 class MalformedReply(ProcessError):
     """A reply has not the form that the replies to its command have."""
 
-    def __init__(self, name: str, command: str, reply: list[str]) -> None:
-        shown = reply[-1][:80] if reply else ""
-        super().__init__(f"{name} gave an answer to '{command[:80]}' that means nothing: {shown}")
-        self.command = command
-        self.reply = reply
+    def __init__(self, name: str, command: str, text: str) -> None:
+        super().__init__(f"{name} gave an answer to '{command[:80]}' that means nothing: {text[:80]}")
 
 
 class SourceRefused(RewindError):

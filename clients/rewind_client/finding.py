@@ -12,10 +12,12 @@ from typing import Optional
 from .core import Core, unnoted
 from .errors import NotFound, ProcessError, SourceRefused
 from .meanings import REFUSED_SOURCES
-from .process import TIMEOUT, Process, never
+from .plain import PLAIN
+from .process import JSON, TIMEOUT, Process, never
 
 REPOSITORY = os.path.dirname(os.path.dirname(os.path.dirname(os.path.abspath(__file__))))
 PROGRAMS = ("rewind", "rewind-quick")
+UNKNOWN = "unexpected argument '--json'"
 REFUSAL = re.compile(r"rewind: ([SPC][0-9]+)(?: at ([0-9]+):([0-9]+))?")
 
 
@@ -46,12 +48,12 @@ def find_rewind(named: Optional[str] = None) -> str:
 
 @dataclass(frozen=True)
 class Settings:
-    """How a session runs: how long an answer is awaited, when the wait is cancelled, what is told of commands, and options of Rewind."""
+    """How a session runs: how long an answer is awaited, when the wait is cancelled, what is told of commands, and how many workers."""
 
     timeout: float = TIMEOUT
     cancelled: Callable[[], bool] = never
     journal: Callable[[str], None] = unnoted
-    options: tuple[str, ...] = ()
+    workers: int = 0
 
 
 USUAL = Settings()
@@ -60,13 +62,14 @@ USUAL = Settings()
 def start(rewind: str, path: str, settings: Settings = USUAL) -> Core:
     """A session on a source; SourceRefused where Rewind refuses it.
 
-    Rewind says nothing of a source that it accepts, so it is asked for `g0`.
+    Rewind says nothing of a source that it accepts, so it is asked for `g0`. Beside workers it is the plain program that is asked.
     """
-    process = Process([rewind, *settings.options, path], settings.timeout, settings.cancelled)
+    words, manner = (["--workers", str(settings.workers)], PLAIN) if settings.workers else (["--json"], JSON)
+    process = Process([rewind, *words, path], settings.timeout, settings.cancelled, manner)
     try:
         Core(process).show("g0")
     except ProcessError as fault:
-        raise refusal_of(path, str(fault)) from None
+        raise refusal_of(rewind, path, str(fault)) from None
     return Core(process, settings.journal)
 
 
@@ -82,8 +85,10 @@ def explained(rewind: str, code: str) -> list[str]:
     return []
 
 
-def refusal_of(path: str, said: str) -> Exception:
-    """What a `rewind` that ended at once said: that it refuses the source, or else what went wrong."""
+def refusal_of(rewind: str, path: str, said: str) -> Exception:
+    """What a `rewind` that ended at once said: that it refuses the source, or is an older one, or else what went wrong."""
+    if UNKNOWN in said:
+        return ProcessError(f"{rewind} is an older rewind, without --json: these clients want that of their own release")
     found = REFUSAL.search(said)
     if not found:
         return ProcessError(said)

@@ -16,7 +16,7 @@ from .handed import handed_value
 from .names import step_number, step_of, step_owner
 from .notes import Note, Place, Use, found_use, uses_of, value_over, woken
 from .program import Program
-from .replies import Channel, Entry, Goroutine, KindWord
+from .replies import Channel, Entry, Goroutine, KindWord, Reply
 
 NOTED = 20_000
 PORTION = 500
@@ -94,7 +94,7 @@ class Follower:
             else:
                 self.take_noted(log[at : at + PORTION])
 
-    def catch_up(self, log: Sequence[Entry], commands: Sequence[str], told: Callable[[], list[str]]) -> None:
+    def catch_up(self, log: Sequence[Entry], commands: Sequence[str], told: Callable[[], Reply]) -> None:
         """Comes near the end of a long log by the commands that made it; `told` gives the log as the other session tells it."""
         if len(log) - len(self.entries) < FAR or len(commands) * STEPS_FOR_A_COMMAND > len(log):
             return
@@ -149,11 +149,11 @@ class Follower:
         self.entries.append(entry)
         self.counts[step_owner(entry.step)] = step_number(entry.step)
 
-    def expect(self, entries: Sequence[Entry], found: Sequence[Sequence[str]]) -> None:
+    def expect(self, entries: Sequence[Entry], found: Sequence[Reply]) -> None:
         """Sees that the steps taken are those of the log."""
         for entry, reply in zip(entries, found):
-            if not replies.is_ok(reply) or replies.stepped(reply) != entry:
-                raise ProcessError(f"the second session went another way at {entry.step}: {reply[-1][:80]}")
+            if not reply.is_ok or replies.stepped(reply) != entry:
+                raise ProcessError(f"the second session went another way at {entry.step}: {reply.last[:80]}")
 
     def take_noted(self, entries: Sequence[Entry]) -> None:
         """Takes steps twice: first for their lines and variables, then for what they do to the channels that these name."""
@@ -199,7 +199,7 @@ class Follower:
         assert shown is not None
         for command in ["step " + owner] + [f"step {owner} {clause}" for clause in range(1, MAX_CLAUSES)]:
             reply = core.ask(command)
-            if replies.is_ok(reply):
+            if reply.is_ok:
                 if replies.stepped(reply) == entry:
                     self.fault_command = command
                     return shown

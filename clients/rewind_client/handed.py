@@ -24,7 +24,7 @@ def handed_value(core: Core, note: Note) -> tuple[str, int]:
     if any(step_owner(step) == sender for step in gone):
         return "", len(gone)
     reply, value = core.ask("step " + sender), ""
-    if replies.is_ok(reply):
+    if reply.is_ok:
         channel = core.channel(note.channel)
         if channel and replies.stepped(reply).kind.word in SHOWING:
             value = shown_value(channel, sender)

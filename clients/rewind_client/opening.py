@@ -15,7 +15,7 @@ from .source import Source
 def open_session(rewind: str, path: str, settings: Settings = USUAL) -> Session:
     """A session on a source; SourceRefused where Rewind refuses it, and it can't be carried over.
 
-    The second session has no options and no journal.
+    The second session has no workers and no journal.
     """
     core, program = begun(rewind, path, settings)
     source = Source(program)
@@ -23,7 +23,7 @@ def open_session(rewind: str, path: str, settings: Settings = USUAL) -> Session:
     def begin() -> Core:
         """A second session, which has read the copy when it is there."""
         with source.copied() as copy:
-            return start(rewind, copy, replace(settings, journal=unnoted, options=()))
+            return start(rewind, copy, replace(settings, journal=unnoted, workers=0))
 
     return Session(core, source.program, begin, source)
 

@@ -1,4 +1,4 @@
-"""A `rewind` process: commands go in, replies come out.
+"""A `rewind` process: commands go in, answers come out.
 
 A process may answer, end, hang or write without end; each of these is an answer or an error, within a time limit. A command whose
 answer the user stopped waiting for is still owed its reply, which is read before the next command is sent.
@@ -11,17 +11,16 @@ import subprocess
 import time
 from collections import deque
 from collections.abc import Callable, Iterable, Sequence
-from typing import Optional
+from typing import NamedTuple, Optional
 
-from .errors import Cancelled, ProcessError
+from .errors import Cancelled, MalformedReply, ProcessError
 from .meanings import meaning_of_exit
+from .replies import Reply, reply_of
 
 TIMEOUT = 30.0
 TICK_MS = 100
 PART = 1 << 16
 MAX_REPLY = 1 << 28
-# What begins the lines of a reply before its last one.
-WITHIN = "| "
 # Commands sent in one exchange: their replies are read while the next ones are written.
 MAX_BATCH = 2000
 
@@ -30,10 +29,22 @@ def never() -> bool:
     return False
 
 
+class Manner(NamedTuple):
+    """How a program answers: whether another line of the same answer follows a line, and what the lines of one say to a command."""
+
+    goes_on: Callable[[str], bool]
+    read: Callable[[str, list[str]], Reply]
+
+
+JSON = Manner(lambda line: False, lambda command, lines: reply_of(lines[0]))
+
+
 class Process:
     """One process, asked command by command."""
 
-    def __init__(self, words: Sequence[str], timeout: float = TIMEOUT, cancelled: Callable[[], bool] = never) -> None:
+    def __init__(
+        self, words: Sequence[str], timeout: float = TIMEOUT, cancelled: Callable[[], bool] = never, manner: Manner = JSON
+    ) -> None:
         """Starts the process; an answer is awaited for `timeout` seconds, or until `cancelled` holds.
 
         The process gets a session of its own, so that a Ctrl-C at the terminal does not end it.
@@ -41,6 +52,7 @@ class Process:
         self.name = words[0]
         self.timeout = timeout
         self.cancelled = cancelled
+        self.manner = manner
         self.ended: Optional[str] = None
         self.owed = 0
         self.whole: deque[list[str]] = deque()
@@ -59,24 +71,24 @@ class Process:
         for handle in (self.input, self.output, self.said_by):
             os.set_blocking(handle, False)
 
-    def ask(self, command: str) -> list[str]:
-        """The lines of the reply to a command of one line, which must hold a word.
+    def ask(self, command: str) -> Reply:
+        """The answer to a command of one line, which must hold a word.
 
         Raises ProcessError where the process is gone or gives no answer in time; it is ended then. Raises Cancelled where the
         user stopped waiting.
         """
         return self.ask_all([command])[0]
 
-    def ask_all(self, commands: Iterable[str]) -> list[list[str]]:
-        """The replies to commands, asked in one go."""
+    def ask_all(self, commands: Iterable[str]) -> list[Reply]:
+        """The answers to commands, asked in one go."""
         listed = list(commands)
-        replies: list[list[str]] = []
+        replies: list[Reply] = []
         for at in range(0, len(listed), MAX_BATCH):
             replies += self.exchange(listed[at : at + MAX_BATCH])
         return replies
 
-    def exchange(self, commands: Sequence[str]) -> list[list[str]]:
-        """Writes commands and reads their replies, each as the other end is ready for it."""
+    def exchange(self, commands: Sequence[str]) -> list[Reply]:
+        """Writes commands and reads their answers, each as the other end is ready for it."""
         if self.ended is not None:
             raise ProcessError(self.ended)
         until = time.monotonic() + self.timeout
@@ -85,11 +97,24 @@ class Process:
         rest = memoryview("".join(line + "\n" for line in commands).encode("utf-8", "backslashreplace"))
         self.owed = len(commands)
         replies = []
-        for _ in commands:
-            reply, rest = self.read_reply(rest, until)
-            replies.append(reply)
+        for command in commands:
+            lines, rest = self.read_reply(rest, until)
+            replies.append(self.meaning(command, lines))
             until = time.monotonic() + self.timeout
         return replies
+
+    def meaning(self, command: str, lines: list[str]) -> Reply:
+        """What some lines say; where that is nothing the process ends, since no later answer could be trusted."""
+        try:
+            return self.manner.read(command, lines)
+        except (LookupError, TypeError, ValueError):
+            raise self.malformed(command, lines[-1]) from None
+
+    def malformed(self, command: str, text: str) -> MalformedReply:
+        """Ends the process for an answer that means nothing."""
+        fault = MalformedReply(self.name, command, text)
+        self.end(str(fault))
+        return fault
 
     def read_reply(self, rest: memoryview, until: float) -> "tuple[list[str], memoryview]":
         """The next reply, and what is still to be written."""
@@ -105,7 +130,7 @@ class Process:
         return self.whole.popleft(), rest
 
     def sort_out(self, read: bytes) -> None:
-        """Sorts what was read into replies: each ends in the first line that is none of those within."""
+        """Sorts what was read into replies: each ends in the first line that no other one follows."""
         self.held += len(read)
         end = read.rfind(b"\n") + 1
         if not end:
@@ -115,7 +140,7 @@ class Process:
         self.rest = [read[end:]]
         for line in lines:
             self.begun.append(line)
-            if not line.startswith(WITHIN):
+            if not self.manner.goes_on(line):
                 self.whole.append(self.begun)
                 self.begun = []
                 self.held = len(read) - end

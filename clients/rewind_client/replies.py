@@ -1,14 +1,87 @@
-"""Replies as values. Each function reads the lines of one reply; lines of another form give a ValueError."""
+"""Replies as values, by their parts. An answer with other parts gives a KeyError, a TypeError or a ValueError."""
 from __future__ import annotations
 
 import gc
-import re
-from collections.abc import Sequence
+import json
+from collections.abc import Iterator
+from contextlib import contextmanager
 from enum import Enum
 from functools import lru_cache
-from typing import NamedTuple
+from typing import Any, NamedTuple
 
-LAST_LINE = re.compile(r"ok( |$)|no [A-Z][0-9]+( |$)|\? bad command$")
+# What the plain program says to a line that is no command.
+NO_COMMAND = "? bad command"
+NOT_DONE = frozenset(("refused", "partly", "breaks"))
+# Of what is read from a longer line none can be garbage, which would be looked for again and again.
+LONG = 1 << 20
+SHORT = 120
+DECODER = json.JSONDecoder()
+
+
+class Reply(NamedTuple):
+    """What is answered to a line: its parts, and the text that the plain program writes."""
+
+    parts: dict[str, Any]
+    text: str
+
+    @property
+    def name(self) -> str:
+        """Which reply it is; an empty text where the line was no command."""
+        found: str = self.parts.get("answer", "")
+        return found
+
+    @property
+    def is_ok(self) -> bool:
+        """Whether the command was done."""
+        return "answer" in self.parts and self.parts["answer"] not in NOT_DONE
+
+    @property
+    def code(self) -> str:
+        """The code of a refusal, or an empty text."""
+        found: str = self.parts.get("code", "")
+        return found
+
+    @property
+    def lines(self) -> list[str]:
+        return self.text[:-1].split("\n")
+
+    @property
+    def last(self) -> str:
+        """The last line of the text."""
+        return self.text[:-1].rpartition("\n")[2]
+
+
+def reply_of(line: str) -> Reply:
+    """What a line of the protocol says. A query has no text: for the plain program it is no command."""
+    if len(line) < SHORT:
+        return same_reply(line)
+    with uncollected(len(line)):
+        return read(line)
+
+
+def read(line: str) -> Reply:
+    told, end = DECODER.raw_decode(line)
+    if end != len(line) or not isinstance(told, dict) or not told.keys() & {"reply", "about", "error"}:
+        raise ValueError(line[:80])
+    parts = {} if "error" in told else told.get("reply", told)
+    return Reply(parts, told.get("text", NO_COMMAND + "\n"))
+
+
+# The same short lines come over and over where many schedules are taken.
+same_reply = lru_cache(maxsize=4096)(read)
+
+
+@contextmanager
+def uncollected(length: int) -> Iterator[None]:
+    """Looks for no garbage while much is read."""
+    collects = gc.isenabled() and length > LONG
+    if collects:
+        gc.disable()
+    try:
+        yield
+    finally:
+        if collects:
+            gc.enable()
 
 
 class KindWord(Enum):
@@ -143,26 +216,6 @@ class Channel(NamedTuple):
     receivers: tuple[Waiter, ...]
 
 
-def is_reply(reply: Sequence[str]) -> bool:
-    """Whether the last line is that of a reply. Those before it begin with `| `, else one of them were the last."""
-    return LAST_LINE.match(reply[-1]) is not None
-
-
-def is_ok(reply: Sequence[str]) -> bool:
-    return reply[-1] == "ok" or reply[-1].startswith("ok ")
-
-
-def code_of(reply: Sequence[str]) -> str:
-    """The code of a refusal, or an empty text."""
-    words = reply[-1].split(" ")
-    return words[1] if words[0] == "no" else ""
-
-
-def lines_within(reply: Sequence[str]) -> list[str]:
-    """The lines before the last, without what marks them."""
-    return [line[2:] for line in reply[:-1]]
-
-
 @lru_cache(maxsize=1024)
 def kind_of(text: str) -> Kind:
     word, _, rest = text.partition(" ")
@@ -175,75 +228,73 @@ def kind_of(text: str) -> Kind:
     return Kind(KindWord(word))
 
 
-def entry_of(text: str) -> Entry:
-    step, _, kind = text.partition(" ")
-    return Entry(step, kind_of(kind))
+def entry_of(told: dict[str, Any]) -> Entry:
+    return Entry(told["id"], kind_of(told["kind"]))
 
 
-def stepped(reply: Sequence[str]) -> Entry:
-    """`ok G#N KIND` of `step`."""
-    return entry_of(reply[-1].split(" ", 1)[1])
+def stepped(reply: Reply) -> Entry:
+    """The step that `step` took."""
+    return entry_of(reply.parts)
 
 
-def ran(reply: Sequence[str]) -> Ran:
-    """`ok K REASON` of `run`."""
-    words = reply[-1].split(" ")
-    reason = Reason(words[2])
-    return Ran(int(words[1]), reason, int(words[3]) if reason is Reason.BREAK else 0)
+def ran(reply: Reply) -> Ran:
+    """How a `run` ended."""
+    return Ran(reply.parts["steps"], Reason(reply.parts["end"]), reply.parts["line"] or 0)
 
 
-def undone(reply: Sequence[str]) -> str:
-    """`ok G#N` of `undo`."""
-    return reply[-1].split(" ")[1]
+def undone(reply: Reply) -> str:
+    """The step that `undo` took back."""
+    found: str = reply.parts["id"]
+    return found
 
 
-def steps(reply: Sequence[str]) -> list[str]:
-    """`ok K IDS` of `back`, `redo`, `deps` and `causes`; also the IDS of `no B6 K IDS`."""
-    words = reply[-1].split(" ")
-    named = words[2:] if words[0] == "ok" else words[3:]
-    if int(words[1] if words[0] == "ok" else words[2]) != len(named):
-        raise ValueError(reply[-1][:80])
-    return named
+def steps(reply: Reply) -> list[str]:
+    """The steps of `back`, `redo`, `deps` and `causes`; also those that were done before there was no memory."""
+    return list(reply.parts["ids"])
 
 
-def log(reply: Sequence[str]) -> list[Entry]:
-    """The lines of `log`. Of a million entries none can be garbage, which would be looked for again and again."""
-    collects = gc.isenabled()
-    gc.disable()
-    try:
-        split = (line[2:].partition(" ") for line in reply[:-1])
-        return [Entry(step, kind_of(kind)) for step, _, kind in split]
-    finally:
-        if collects:
-            gc.enable()
+def steps_done(reply: Reply) -> list[str]:
+    """The steps that a refused command has done; most have done none."""
+    return steps(reply) if reply.name == "partly" else []
 
 
-def goroutine(reply: Sequence[str]) -> Goroutine:
-    """The lines of `show`: the goroutine, then its frames, the innermost first."""
-    words = reply[0].split(" ")[1:]
-    state = State(words[1])
-    line = 0 if state is State.DONE else int(words[4])
-    return Goroutine(words[0], state, int(words[2]), line, tuple(frame(text) for text in reply[1:-1]))
+def steps_named(reply: Reply) -> list[str]:
+    """The steps that a reply names in its last line."""
+    if reply.name in ("stepped", "undone"):
+        return [undone(reply)]
+    if reply.name == "breaks":
+        return [reply.parts["earlier"], reply.parts["later"]]
+    return steps(reply) if "ids" in reply.parts else []
 
 
-def frame(text: str) -> Frame:
-    words = text.split(" ")[1:]
-    pairs = (word.partition("=") for word in words[1:])
-    return Frame(words[0], tuple(Variable(name, value) for name, _, value in pairs))
+def lines_within(reply: Reply) -> list[str]:
+    """The lines of `text` and `console`."""
+    return list(reply.parts["lines"])
 
 
-def channel(name: str, reply: Sequence[str]) -> Channel:
-    """The lines of `chan`."""
-    first, items, senders, receivers = (line.split(" ")[1:] for line in reply[:4])
-    if (first[0], items[0], senders[0], receivers[0]) != ("cap", "items", "senders", "receivers"):
-        raise ValueError(reply[0])
-    waiting = [tuple(waiter(text) for text in words[1:]) for words in (senders, receivers)]
-    return Channel(name, int(first[1]), first[2] == "open", tuple(items[1:]), waiting[0], waiting[1])
+def log(reply: Reply) -> list[Entry]:
+    """The steps of `log`."""
+    with uncollected(len(reply.text)):
+        return [Entry(told["id"], kind_of(told["kind"])) for told in reply.parts["steps"]]
 
 
-@lru_cache(maxsize=16384)
-def waiter(text: str) -> Waiter:
-    """`G`, `G@CASE`, `G=V` or `G@CASE=V`."""
-    who, _, value = text.partition("=")
-    name, _, clause = who.partition("@")
-    return Waiter(name, int(clause or 0), value)
+def goroutine(reply: Reply) -> Goroutine:
+    """The goroutine of `show`, with its frames, the innermost first."""
+    told = reply.parts
+    frames = tuple(frame(one) for one in told["frames"])
+    return Goroutine(told["goroutine"], State(told["status"]), told["steps"], told["line"] or 0, frames)
+
+
+def frame(told: dict[str, Any]) -> Frame:
+    return Frame(told["function"], tuple(Variable(one["name"], one["value"]) for one in told["variables"]))
+
+
+def channel(name: str, reply: Reply) -> Channel:
+    """The channel of `chan`."""
+    told = reply.parts
+    senders, receivers = (tuple(waiter(one) for one in told[side]) for side in ("senders", "receivers"))
+    return Channel(name, told["capacity"], not told["closed"], tuple(told["items"]), senders, receivers)
+
+
+def waiter(told: dict[str, Any]) -> Waiter:
+    return Waiter(told["goroutine"], told["clause"] or 0, told.get("value") or "")

@@ -12,7 +12,7 @@ from . import replies
 from .core import Core, step_command
 from .errors import ProcessError
 from .names import step_owner
-from .replies import Entry, KindWord, Reason
+from .replies import Entry, KindWord, Reason, Reply
 from .session import Session
 
 FIRST_PORTION = 16
@@ -41,7 +41,7 @@ class Scout:
             self.core.process.end()
         self.core = None
 
-    def come_by(self, commands: Sequence[str], told: Callable[[], list[str]]) -> None:
+    def come_by(self, commands: Sequence[str], told: Callable[[], Reply]) -> None:
         """Comes to the end of the log by the commands that made it, where these are few and lead there."""
         if len(commands) * STEPS_FOR_A_COMMAND > len(self.log):
             return
@@ -58,8 +58,8 @@ class Scout:
             self.core, self.given = self.begin(), self.at
             steps = self.log[: self.at]
             found = self.core.process.ask_all([step_command(entry) for entry in steps])
-            if steps and found[-1] != [f"ok {steps[-1].step} {steps[-1].kind}"]:
-                raise ProcessError(f"a second session went another way: {found[-1][-1][:80]}")
+            if steps and replies.stepped(found[-1]) != steps[-1]:
+                raise ProcessError(f"a second session went another way: {found[-1].last[:80]}")
         return self.core
 
     def lines_before(self, count: int) -> list[int]:
@@ -69,7 +69,7 @@ class Scout:
         found = core.process.ask_all(commands)[1::2]
         self.at -= count
         self.given += len(commands)
-        return [replies.goroutine(reply).line if replies.is_ok(reply) else 0 for reply in found]
+        return [replies.goroutine(reply).line if reply.is_ok else 0 for reply in found]
 
 
 def last_step_at(session: Session, lines: AbstractSet[int]) -> Generator[int, None, int]:

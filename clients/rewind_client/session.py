@@ -17,7 +17,7 @@ from .ledger import Ledger
 from .names import channel_maker, name_order, step_owner
 from .notes import Note, Place
 from .program import Program
-from .replies import Channel, Entry, Goroutine, KindWord, Ran, Reason, State
+from .replies import Channel, Entry, Goroutine, KindWord, Ran, Reason, Reply, State
 from .source import Source
 
 MAX_GOROUTINES = 10_000
@@ -57,8 +57,8 @@ class Session:
 
     # Commands.
 
-    def ask(self, command: str) -> list[str]:
-        """The reply to any command, with what it changes taken account of."""
+    def ask(self, command: str) -> Reply:
+        """The answer to any command, with what it changes taken account of."""
         changes = self.core.changes
         try:
             reply = self.core.ask(command)
@@ -71,20 +71,20 @@ class Session:
             self.take_account(first_word(command), reply)
         return reply
 
-    def take_account(self, word: str, reply: Sequence[str]) -> None:
+    def take_account(self, word: str, reply: Reply) -> None:
         """Brings the log and what is known of goroutines and channels up to date with a command that moved."""
         self.version += 1
-        if not replies.is_ok(reply) and replies.code_of(reply) != "B6":
+        if not reply.is_ok and reply.name != "partly":
             return
         if word == "step":
             self.after_step(replies.stepped(reply))
             return
         self.forget_states()
         log = self.kept_log
-        if word == "undo" and log and replies.is_ok(reply):
+        if word == "undo" and log and reply.is_ok:
             self.went([log.pop()], len(log))
         elif word == "back" and log is not None:
-            gone = set(replies.steps(reply)) if reply[-1] != "no B6 0" else set()
+            gone = set(replies.steps(reply))
             first = next((at for at, it in enumerate(log) if it.step in gone), len(log))
             self.kept_log = [it for it in log if it.step not in gone]
             self.went([it for it in log[first:] if it.step in gone], first)
@@ -140,11 +140,11 @@ class Session:
         self.keep_log(log)
         return True
 
-    def moved(self, command: str, read: Callable[[Sequence[str]], Found]) -> Found:
-        """What is read from the reply to a command that moves; Refused where it is."""
+    def moved(self, command: str, read: Callable[[Reply], Found]) -> Found:
+        """What is read from the answer to a command that moves; Refused where it is."""
         reply = self.ask(command)
-        if not replies.is_ok(reply):
-            raise self.core.parsed(command, reply, lambda lines: Refused(command, lines))
+        if not reply.is_ok:
+            raise self.core.parsed(command, reply, lambda told: Refused(command, told))
         return self.core.parsed(command, reply, read)
 
     def step(self, goroutine: str, clause: int = 0) -> Entry:
@@ -171,7 +171,7 @@ class Session:
         """The steps that `back` would take back, as the second session does and takes again; Refused where it would be."""
         core = self.follow().session()
         reply = core.ask("back " + target)
-        if not replies.is_ok(reply):
+        if not reply.is_ok:
             raise Refused("back " + target, reply)
         gone = replies.steps(reply)
         with self.follower.whole():
@@ -242,7 +242,7 @@ class Session:
         names = self.goroutine_names() if some is None else some
         wanted = [name for name in names if name not in self.shown]
         for name, reply in zip(wanted, self.core.ask_all(["show " + name for name in wanted])):
-            self.shown[name] = replies.goroutine(reply) if replies.is_ok(reply) else None
+            self.shown[name] = replies.goroutine(reply) if reply.is_ok else None
         found = (self.shown[name] for name in names)
         return [it for it in found if it is not None]
 
@@ -256,7 +256,7 @@ class Session:
         names = self.channel_names()
         wanted = [name for name in names if name not in self.channels_shown]
         for name, reply in zip(wanted, self.core.ask_all(["chan " + name for name in wanted])):
-            self.channels_shown[name] = replies.channel(name, reply) if replies.is_ok(reply) else None
+            self.channels_shown[name] = replies.channel(name, reply) if reply.is_ok else None
         found = (self.channels_shown[name] for name in names)
         return [it for it in found if it is not None]
 
@@ -269,7 +269,7 @@ class Session:
         core, found = self.follow().session(), []
         with self.follower.whole():
             for clause in range(1, count + 1):
-                if replies.is_ok(core.ask(f"step {goroutine} {clause}")):
+                if core.ask(f"step {goroutine} {clause}").is_ok:
                     found.append(clause)
                     core.undo()
         return found

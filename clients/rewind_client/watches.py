@@ -73,7 +73,7 @@ class Watcher:
         places = {entry.step: at for at, entry in enumerate(log)}
         for watch in watches:
             reply = core.ask("back " + watch.target(self.number(core, watch)))
-            if replies.is_ok(reply):
+            if reply.is_ok:
                 found.append(Given(places[replies.steps(reply)[0]], watch))
                 core.redo()
         return sorted(found, key=lambda given: given.place)[-1] if found else None
@@ -93,7 +93,7 @@ class Watcher:
 
     def knows(self, core: Core, watch: ChannelWatch, number: int) -> bool:
         """Whether `back` finds a time of a number; what it takes back comes again."""
-        found = replies.is_ok(core.ask("back " + watch.target(number)))
+        found = core.ask("back " + watch.target(number)).is_ok
         if found:
             core.redo()
         return found
@@ -102,8 +102,8 @@ class Watcher:
         """The steps that did one thing, among some; what goes back for another one comes again."""
         found: list[Given] = []
         for number in count(self.number(core, watch), -1):
-            reply = core.ask("back " + watch.target(number)) if number > 0 or isinstance(watch, Watch) else ["no"]
-            if not replies.is_ok(reply):
+            reply = core.ask("back " + watch.target(number)) if number > 0 or isinstance(watch, Watch) else None
+            if reply is None or not reply.is_ok:
                 return found
             step = replies.steps(reply)[0]
             if step not in places:

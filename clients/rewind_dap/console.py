@@ -6,7 +6,7 @@ from typing import TYPE_CHECKING, Optional
 from rewind_client.breakpoints import place_of
 from rewind_client.core import MOVING, with_plain_blanks, words_of
 from rewind_client.names import is_channel, step_owner
-from rewind_client.replies import is_ok
+from rewind_client.replies import Reply, steps_named
 from rewind_shell.completing import Completing
 from rewind_shell.words import BY_NAME, hint, meant_words
 
@@ -70,10 +70,10 @@ class Console(Handlers):
         if words[0] == "break" and len(words) == 2:
             return self.set_breakpoint(debuggee, words[1])
         reply = debuggee.session.ask(text)
-        if not reply[-1].startswith("?"):
-            if is_ok(reply):
-                self.after_command(debuggee, words, reply[-1])
-            return said("\n".join(reply))
+        if reply.name:
+            if reply.is_ok:
+                self.after_command(debuggee, words, reply)
+            return said("\n".join(reply.lines))
         return self.word(debuggee, words, frame) or self.not_understood(debuggee, text, words, frame, reply)
 
     def word(self, debuggee: Debuggee, words: list[str], frame: int) -> Optional[Body]:
@@ -87,24 +87,23 @@ class Console(Handlers):
             return said(answer)
         return self.typed(" ".join(meant), frame) if words[0] != name else None
 
-    def not_understood(self, debuggee: Debuggee, text: str, words: list[str], frame: int, reply: list[str]) -> Body:
+    def not_understood(self, debuggee: Debuggee, text: str, words: list[str], frame: int, reply: Reply) -> Body:
         """A variable or an expression; else the reply of Rewind, with a hint."""
         if frame and (len(words) == 1 or self.has_value(debuggee, text, frame)):
             return self.value(debuggee, text, frame)
         self.adapter.later.append(lambda: self.adapter.say("console", hint(text)))
-        return said("\n".join(reply))
+        return said("\n".join(reply.lines))
 
     def set_breakpoint(self, debuggee: Debuggee, wanted: str) -> Body:
         """`break LINE` or `break FUNCTION`; on a line without a statement it is moved."""
         found = place_of(debuggee.session.program, wanted.rpartition(":")[2])
         reply = debuggee.session.ask(f"break {found.line}")
-        if is_ok(reply):
+        if reply.is_ok:
             debuggee.breakpoints.note_command(["break", str(found.line)])
-        if found.is_moved or not wanted.isdigit():
-            reply = reply + [f"The breakpoint is on {debuggee.session.program.at(found.line)}"]
-        return said("\n".join(reply))
+        is_told = found.is_moved or not wanted.isdigit()
+        return said("\n".join(reply.lines + [f"The breakpoint is on {debuggee.session.program.at(found.line)}"] * is_told))
 
-    def after_command(self, debuggee: Debuggee, words: list[str], last: str) -> None:
+    def after_command(self, debuggee: Debuggee, words: list[str], reply: Reply) -> None:
         """What follows from a command that was done."""
         if words[0] == "quit":
             self.adapter.later.append(self.adapter.gone)
@@ -113,9 +112,9 @@ class Console(Handlers):
         elif words[0] == "free" and debuggee.launch.workers:
             self.set_workers_going(debuggee, int(words[1]))
         elif words[0] in MOVING:
-            named = [step_owner(word) for word in last.split(" ") if "#" in word]
+            named = [step_owner(step) for step in steps_named(reply)]
             focus = named[-1 if words[0] in ("step", "redo") else 0] if named else debuggee.focus
-            stop = Stop("step", focus, f"After '{' '.join(words)[:40]}': {last[:80]}")
+            stop = Stop("step", focus, f"After '{' '.join(words)[:40]}': {reply.last[:80]}")
             self.adapter.stop_at(end(debuggee.session) if debuggee.session.stopped_by() else stop)
 
     def set_workers_going(self, debuggee: Debuggee, steps: int) -> None:

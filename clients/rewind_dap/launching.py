@@ -41,8 +41,7 @@ def launch_of(arguments: Arguments, chosen: Optional[str]) -> Launch:
 
 def start(launch: Launch, cancelled: Callable[[], bool], journal: Callable[[str], None]) -> Session:
     """A session on the program; the second session that it may begin has no workers."""
-    options = ("--workers", str(launch.workers)) if launch.workers else ()
-    return open_session(launch.rewind, launch.path, finding.Settings(launch.timeout, cancelled, journal, options))
+    return open_session(launch.rewind, launch.path, finding.Settings(launch.timeout, cancelled, journal, launch.workers))
 
 
 def described(path: str) -> dict[str, Any]:

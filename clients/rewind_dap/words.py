@@ -9,7 +9,7 @@ from rewind_client.breakpoints import place_of
 from rewind_client.core import with_plain_blanks, words_of
 from rewind_client.errors import RewindError
 from rewind_client.names import is_step
-from rewind_client.replies import Goroutine, is_ok
+from rewind_client.replies import Goroutine
 from rewind_client.searching import ahead
 from rewind_shell.looking import Looking
 from rewind_shell.moving import never_there, no_variable
@@ -111,8 +111,8 @@ class Words:
             given = words_of(line)
             if given and given[0] != "quit":
                 reply = debuggee.session.ask(line)
-                refused += not is_ok(reply)
-                if given[0] in ("break", "clear") and is_ok(reply):
+                refused += not reply.is_ok
+                if given[0] in ("break", "clear") and reply.is_ok:
                     debuggee.breakpoints.note_command(given)
         told = f"After the commands of {path}, {refused} of them refused"
         self.adapter.stop_at(behind_commands(debuggee.session, goroutine.name, told))

@@ -60,7 +60,7 @@ class Choosing:
         """The cases of a select that can proceed: each is tried and taken back."""
         found = []
         for case in range(1, self.cases.get(line, 0) + 1):
-            if self.scheduler.ask([step_words(name, case)])[0].startswith("ok "):
+            if self.scheduler.ask([step_words(name, case)])[0].is_ok:
                 self.scheduler.ask(["undo"])
                 found.append(case)
         return tuple(found)

@@ -85,7 +85,7 @@ class Judge:
 
     def shown(self, names: Sequence[str]) -> list[Goroutine]:
         found = self.scheduler.core.process.ask_all(["show " + name for name in names])
-        return [replies.goroutine(reply) for reply in found if replies.is_ok(reply)]
+        return [replies.goroutine(reply) for reply in found if reply.is_ok]
 
     def drained(self, schedule: Schedule) -> list[Goroutine]:
         """The goroutines that would be blocked for ever, or would go on for ever, if `main` waited for them.

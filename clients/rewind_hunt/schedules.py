@@ -16,7 +16,7 @@ from rewind_client.core import Core, step_command, step_words
 from rewind_client.errors import RewindError
 from rewind_client.names import child_of, step_owner
 from rewind_client.program import Program
-from rewind_client.replies import Entry, KindWord
+from rewind_client.replies import Entry, KindWord, Reply
 
 from .choosers import Chooser, Make
 from .choosing import WAKING, Choosing
@@ -31,7 +31,7 @@ NEXT_CHILDREN = 3
 FIRST_CHANGES = 200
 # A process is started anew before its journal, which takes 2,000,000 commands, is full.
 MOST_COMMANDS = 1_500_000
-NO_ROOM = frozenset(("no Q1", "no Q2", "no N6"))
+NO_ROOM = frozenset(("Q1", "Q2", "N6"))
 
 
 class Manner(Enum):
@@ -156,23 +156,23 @@ class Scheduler:
 
     # Commands.
 
-    def ask(self, commands: Sequence[str]) -> list[str]:
-        """The last lines of the replies to some commands."""
+    def ask(self, commands: Sequence[str]) -> list[Reply]:
+        """The replies to some commands."""
         self.commands += len(commands)
-        return [reply[-1] for reply in self.core.process.ask_all(commands)]
+        return self.core.process.ask_all(commands)
 
     def try_steps(self, commands: Sequence[str]) -> list[Entry]:
         """Sends steps, some of which may be refused; those that are taken."""
         taken = []
-        for command, last in zip(commands, self.ask(commands)):
-            if last.startswith("ok "):
-                entry = replies.entry_of(last[3:])
+        for command, reply in zip(commands, self.ask(commands)):
+            if reply.is_ok:
+                entry = replies.stepped(reply)
                 taken.append(entry)
                 self.schedule.note(entry)
                 self.schedule.last_command = command
-            elif last == "no N4":
+            elif reply.code == "N4":
                 self.schedule.done.add(command.split(" ")[1])
-            elif last in NO_ROOM:
+            elif reply.code in NO_ROOM:
                 raise RewindError(f"a schedule is longer than {self.core.process.name} keeps: allow fewer --steps")
         return taken
 
@@ -209,7 +209,7 @@ class Scheduler:
         reply = self.ask([f"run {self.most_steps}"])[0]
         for entry in self.core.log():
             self.schedule.note(entry)
-        if replies.ran([reply]).reason is replies.Reason.STUCK:
+        if replies.ran(reply).reason is replies.Reason.STUCK:
             self.schedule.end = End.DEADLOCK
 
     def evenly(self) -> None:

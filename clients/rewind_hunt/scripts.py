@@ -5,11 +5,12 @@ from collections.abc import Iterator, Sequence
 from dataclasses import dataclass
 from typing import Optional
 
+from rewind_client import replies
 from rewind_client.core import step_command
 from rewind_client.explanations import explain
 from rewind_client.names import step_number, step_of, step_owner
 from rewind_client.program import Program
-from rewind_client.replies import Entry, KindWord
+from rewind_client.replies import Entry, KindWord, Reply
 from rewind_client.session import Session
 
 from .hunting import Found, Hunt
@@ -118,7 +119,7 @@ class Reducer:
         """The entries of steps that some steps depend on."""
         kept: set[str] = set()
         for reply in self.scheduler.ask(["causes " + step for step in targets]):
-            kept.update(reply.split(" ")[2:])
+            kept.update(replies.steps(reply))
         return [it for it in entries if it.step in kept and not it.kind.stops]
 
     # Their order.
@@ -147,8 +148,8 @@ class Reducer:
 
     def needs(self, kept: Sequence[Entry], prints: Sequence[str]) -> dict[str, frozenset[str]]:
         """The steps that must come before each."""
-        replies = self.scheduler.ask(["causes " + entry.step for entry in kept])
-        needs = {entry.step: frozenset(reply.split(" ")[2:]) - {entry.step} for entry, reply in zip(kept, replies)}
+        causes = self.scheduler.ask(["causes " + entry.step for entry in kept])
+        needs = {entry.step: frozenset(replies.steps(reply)) - {entry.step} for entry, reply in zip(kept, causes)}
         for earlier, later in zip(prints, prints[1:]):
             needs[later] |= {earlier}
         return needs
@@ -180,7 +181,7 @@ class Reducer:
         self.from_start([f"run {count}"])
         return self.scheduler.core.log()
 
-    def from_start(self, commands: Sequence[str]) -> list[str]:
+    def from_start(self, commands: Sequence[str]) -> list[Reply]:
         self.scheduler.go_to_start()
         return self.scheduler.ask(commands)
 
@@ -218,5 +219,5 @@ def printing(scheduler: Scheduler, entries: Sequence[Entry]) -> list[str]:
         commands += [step_command(entry), "console"]
     scheduler.commands += len(commands)
     for reply in scheduler.core.process.ask_all(commands)[1::2]:
-        counts.append(len(reply))
-    return [entry.step for entry, before, after in zip(entries, [1, *counts], counts) if after > before]
+        counts.append(len(replies.lines_within(reply)))
+    return [entry.step for entry, before, after in zip(entries, [0, *counts], counts) if after > before]

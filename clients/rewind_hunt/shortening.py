@@ -9,6 +9,7 @@ from typing import Optional
 
 from rewind_client.core import step_words
 from rewind_client.names import step_owner
+from rewind_client.replies import Reason, ran
 
 from .hunting import Found
 from .outcomes import Outcome
@@ -25,7 +26,7 @@ SECONDS = 3.0
 MOST_AWAY = 10
 MOST_PLACES = 400
 MOST_GOROUTINES = 20
-REASONS = {End.FAULT: "fault", End.DEADLOCK: "stuck", End.ENDED: "ended", End.UNENDED: "count"}
+REASONS = {End.FAULT: Reason.FAULT, End.DEADLOCK: Reason.STUCK, End.ENDED: Reason.ENDED, End.UNENDED: Reason.COUNT}
 
 
 @dataclass(frozen=True)
@@ -136,8 +137,8 @@ class Shortener:
         """Whether commands of which none is refused come to the same end as a schedule."""
         self.left -= 1
         answers = self.reducer.from_start(commands)
-        if not all(answer.startswith("ok") for answer in answers):
+        if not all(reply.is_ok for reply in answers):
             return False
-        if commands[-1].startswith("run ") and not answers[-1].endswith(" " + REASONS[outcome.end]):
+        if commands[-1].startswith("run ") and ran(answers[-1]).reason is not REASONS[outcome.end]:
             return False
         return self.reducer.hunted.has_come_to(outcome, self.found, self.reducer.now(outcome.number))

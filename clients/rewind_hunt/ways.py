@@ -8,7 +8,7 @@ from typing import Optional
 
 from rewind_client.core import step_words
 from rewind_client.names import step_owner
-from rewind_client.replies import Entry, KindWord
+from rewind_client.replies import Entry, KindWord, Reason, ran, steps
 
 from .hunting import Found
 from .outcomes import Outcome
@@ -51,17 +51,17 @@ class Ways:
         until = time.monotonic() + SECONDS
         self.reducer.from_start(self.commands)
         entries = self.reducer.scheduler.core.log()
-        steps = [it for it in reversed(entries) if it.kind.word not in PLAIN]
+        targets = [it for it in reversed(entries) if it.kind.word not in PLAIN]
         second: Optional[WayBack] = None
-        for tried, entry in enumerate(steps):
+        for tried, entry in enumerate(targets):
             for first in self.firsts(entries, entry):
                 if time.monotonic() > until:
-                    return Search(second, tried, len(steps))
+                    return Search(second, tried, len(targets))
                 way = self.tried(entry.step, first)
                 if way and self.reducer.hunted.is_well(way.outcome):
-                    return Search(way, tried, len(steps))
+                    return Search(way, tried, len(targets))
                 second = second or way
-        return Search(second, len(steps), len(steps))
+        return Search(second, len(targets), len(targets))
 
     def firsts(self, entries: Sequence[Entry], entry: Entry) -> Iterator[list[str]]:
         """What is done after the step is taken back, before the run: nothing, or a step of another goroutine."""
@@ -76,9 +76,9 @@ class Ways:
         commands = [*first, f"run {self.reducer.most_steps}"]
         answers = self.reducer.from_start([*self.commands, "back " + step, *commands])
         behind = answers[len(self.commands) :]
-        if not all(answer.startswith("ok") for answer in behind) or not behind[-1].endswith(" ended"):
+        if not all(reply.is_ok for reply in behind) or ran(behind[-1]).reason is not Reason.ENDED:
             return None
         outcome = self.reducer.now()
         if outcome.end is not End.ENDED or self.found in self.reducer.hunted.against(outcome):
             return None
-        return WayBack(step, int(behind[0].split(" ")[1]), tuple(commands), outcome)
+        return WayBack(step, len(steps(behind[0])), tuple(commands), outcome)

@@ -12,12 +12,12 @@ from rewind_client.errors import Cancelled, ProcessError, RewindError, SourceRef
 from rewind_client.explanations import Standing, standing_of
 from rewind_client.finding import Settings, explained
 from rewind_client.meanings import FAULTS, REFUSED_COMMANDS
-from rewind_client.names import is_step, step_owner
+from rewind_client.names import step_owner
 from rewind_client.opening import open_session
 from rewind_client.printed import change
 from rewind_client.program import Program, read_program
 from rewind_client.refusals import explain_refusal
-from rewind_client.replies import Entry, State
+from rewind_client.replies import Entry, Reply, State, steps_named
 from rewind_client.searching import Blamed, Searched, ahead, blame_from, search_from
 from rewind_client.stories import Stories
 
@@ -99,8 +99,8 @@ class Shell:
         except Cancelled:
             self.screen.say("Stopped by Ctrl-C; Rewind may still do the command.", "note")
         except Refused as refusal:
-            self.screen.reply([refusal.reply[-1]])
-            self.tell_refusal(refusal.reply[-1])
+            self.screen.reply([refusal.reply.last])
+            self.tell_refusal(refusal.code)
         except ProcessError as fault:
             self.lost(fault)
         except SourceRefused as refused:
@@ -130,7 +130,7 @@ class Shell:
 
     def leave(self) -> None:
         if not self.is_lost:
-            self.screen.reply(self.session.ask("quit"))
+            self.screen.reply(self.session.ask("quit").lines)
         self.is_over = True
 
     def lost(self, fault: ProcessError) -> None:
@@ -144,21 +144,20 @@ class Shell:
 
     def passed(self, line: str) -> None:
         """A line for Rewind, unchanged, with its reply and what that means."""
-        reply = self.session.ask(line)
-        self.screen.reply(reply)
-        words, last = words_of(line), reply[-1]
-        if last.startswith("?"):
+        reply, words = self.session.ask(line), words_of(line)
+        self.screen.reply(reply.lines)
+        if not reply.name:
             self.screen.say(hint(line), "note")
             return
         self.script.typed(line)
-        if last.startswith("no "):
-            self.tell_refusal(last)
+        if not reply.is_ok:
+            self.tell_refusal(reply.code)
         elif words[0] in MOVING_WORDS:
-            self.after_move(words, last)
+            self.after_move(words)
         elif words[0] == FOR_WORKERS:
             self.screen.say("The shell has no workers: nothing takes these steps.", "note")
 
-    def after_move(self, words: Sequence[str], last: str) -> None:
+    def after_move(self, words: Sequence[str]) -> None:
         """What follows from steps that were taken, or taken back."""
         self.tell_printed()
         if words[0] == "step":
@@ -166,8 +165,7 @@ class Shell:
         if words[0] in ("step", "redo") and self.session.stopped_by():
             self.screen.say(self.end_in_words(), "note")
 
-    def tell_refusal(self, reply: str) -> None:
-        code = reply.split(" ")[1] if " " in reply else ""
+    def tell_refusal(self, code: str) -> None:
         meaning = REFUSED_COMMANDS.get(code)
         if meaning:
             self.screen.say(f"{code}: {meaning} ('help {code}' tells more)", "note")
@@ -280,23 +278,23 @@ class Shell:
     def take(self, lines: Sequence[str], path: str) -> None:
         """Takes commands of a file, and tells the last reply."""
         commands = [line for line in map(with_plain_blanks, lines) if words_of(line) and words_of(line)[0] != "quit"]
-        refused, reply = 0, ["ok"]
+        refused, reply = 0, Reply({"answer": "done"}, "ok\n")
         for number, line in enumerate(commands, 1):
             reply = self.session.ask(line)
-            refused += not reply[-1].startswith("ok")
+            refused += not reply.is_ok
             given = words_of(line)
-            if given[0] == "break" and reply[-1] == "ok":
+            if given[0] == "break" and reply.is_ok:
                 self.breakpoints.note(int(given[1]))
-            elif given[0] == "clear" and reply[-1] == "ok":
+            elif given[0] == "clear" and reply.is_ok:
                 self.breakpoints.by_line.pop(int(given[1]), None)
             if self.interrupts.pending():
                 self.screen.say(f"Stopped by Ctrl-C after {counted(number, 'command', 'commands')} of {path}", "note")
                 return
         taken = counted(len(commands), f"command of {path} was", f"commands of {path} were")
         self.screen.say(f"{taken} taken, {refused} of them refused; the last gave")
-        self.screen.reply(reply[-1:])
+        self.screen.reply([reply.last])
         self.tell_printed()
-        named = [word for word in reply[-1].split(" ") if is_step(word)]
+        named = steps_named(reply)
         self.chosen = step_owner(named[-1]) if named else self.chosen
         sentence = self.end_in_words()
         if sentence:

@@ -13,7 +13,7 @@ import pytest
 from rewind_client.finding import start
 from rewind_client.program import read_program
 from rewind_client.replies import Kind as StepKind
-from rewind_client.replies import KindWord
+from rewind_client.replies import KindWord, stepped
 from rewind_hunt.choosers import CHOOSERS, Choice, Chooser, FirstInFirstOut, LastMadeReady, Priorities, Ready
 from rewind_hunt.schedules import End, Scheduler
 
@@ -53,9 +53,8 @@ def test_schedules_are_those_of_the_program(name: str, rewind: str) -> None:
         made = scheduler(rewind, path, name)
         schedule = made.take(3)
         fresh = start(rewind, str(path))
-        replies = [reply[-1] for reply in fresh.ask_all(schedule.commands())]
-        assert replies == [f"ok {entry.step} {entry.kind}" for entry in schedule.entries]
-        is_stuck = fresh.ask("run 1")[-1] == "ok 0 stuck"
+        assert [stepped(reply) for reply in fresh.ask_all(schedule.commands())] == schedule.entries
+        is_stuck = fresh.ask("run 1").last == "ok 0 stuck"
         assert is_stuck == (schedule.end is End.DEADLOCK) and (schedule.stopped or is_stuck or len(schedule.entries) == STEPS)
         assert made.take(3).entries == schedule.entries
         fresh.process.end()

@@ -16,7 +16,7 @@ import pytest
 
 from rewind_client.core import Core
 from rewind_client.finding import start
-from rewind_client.replies import KindWord, Reason
+from rewind_client.replies import KindWord, Reason, ran
 from rewind_hunt import hunting
 from rewind_hunt.hunting import Found, Hunt, Plan, here, hunt
 from rewind_hunt.main import Progress
@@ -245,7 +245,7 @@ def reducers() -> Iterator[Callable[[Hunt], Reducer]]:
 def standing(plan: Plan, commands: list[str]) -> Core:
     """A session of its own behind some commands, none of which is refused."""
     core = start(plan.rewind, plan.path)
-    assert all(reply[-1].startswith("ok") for reply in core.ask_all(commands)), commands
+    assert all(reply.is_ok for reply in core.ask_all(commands)), commands
     return core
 
 
@@ -253,8 +253,8 @@ def reason_behind(plan: Plan, commands: list[str]) -> str:
     """How a run by turns goes on behind some commands, or why it cannot."""
     core = standing(plan, commands)
     try:
-        last = core.ask("run 5000")[-1]
-        return (core.end or Reason.MEMORY).value if last == "no N1" else last.split(" ")[2]
+        reply = core.ask("run 5000")
+        return (core.end or Reason.MEMORY).value if reply.code == "N1" else ran(reply).reason.value
     finally:
         core.process.end()
 

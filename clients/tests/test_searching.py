@@ -82,8 +82,8 @@ def test_an_example(name: str, rewind: str) -> None:
     if EXPECTED[name]:
         session = open_session(rewind, example(name))
         replies = session.core.ask_all(found.commands)
-        assert all(reply[-1].startswith("ok") for reply in replies)
-        assert session.ask("run 1")[-1] == {"deadlock": "ok 0 stuck", "panic": "ok 0 fault"}[EXPECTED[name]]
+        assert all(reply.is_ok for reply in replies)
+        assert session.ask("run 1").last == {"deadlock": "ok 0 stuck", "panic": "ok 0 fault"}[EXPECTED[name]]
         session.end()
 
 

@@ -25,6 +25,7 @@ from rewind_shell.shell import Shell
 from rewind_shell.terminal import Screen
 from rewind_shell.words import ALIASES, WORDS
 
+from fakes import FIRST
 from support.places import CLIENTS, EXAMPLES
 from opened import Open
 
@@ -444,7 +445,7 @@ def fake(tmp_path: Path, body: str) -> str:
     """A program in place of Rewind, that answers the first question and then does something else."""
     path = tmp_path / "fake"
     path.write_text(
-        f"#!{sys.executable}\nimport sys, time, os, signal\nsys.stdin.readline()\nprint('| g0 ready 0 line 1\\n| main\\nok', flush=True)\n{body}\n"
+        f"#!{sys.executable}\nimport sys, time, os, signal\nsys.stdin.readline()\nprint({FIRST!r}, flush=True)\n{body}\n"
     )
     path.chmod(path.stat().st_mode | stat.S_IXUSR)
     return str(path)
@@ -459,7 +460,7 @@ def fake(tmp_path: Path, body: str) -> str:
             "gave an answer to 'step g0' that means nothing: what",
         ),
         ("sys.stdin.readline(); sys.exit(3)", "reading or writing failed"),
-        ("sys.stdin.readline()\nwhile True: print('| ' + 'x' * 100_000)", "gave an answer of more than 268435456 bytes"),
+        ("sys.stdin.readline()\nwhile True: sys.stdout.write('x' * 100_000)", "gave an answer of more than 268435456 bytes"),
     ],
 )
 def test_a_core_that_fails(talk: Talk, tmp_path: Path, body: str, sentence: str) -> None:

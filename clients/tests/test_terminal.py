@@ -14,6 +14,7 @@ from typing import Optional
 import pexpect
 import pytest
 
+from fakes import FIRST
 from support.begun import Begun
 from support.places import CLIENTS, EXAMPLES
 
@@ -134,7 +135,7 @@ def test_ctrl_c_ends_a_run_and_not_the_session(begin: Begin) -> None:
 
 def test_ctrl_c_where_rewind_hangs(begin: Begin, tmp_path: Path) -> None:
     path = tmp_path / "hangs"
-    body = "print('| g0 ready 0 line 1\\n| main\\nok', flush=True)\nsys.stdin.readline()\ntime.sleep(60)\n"
+    body = f"print({FIRST!r}, flush=True)\nsys.stdin.readline()\ntime.sleep(60)\n"
     path.write_text(f"#!{sys.executable}\nimport sys, time\nsys.stdin.readline()\n{body}")
     path.chmod(0o755)
     terminal = begin(rewind_path=str(path))

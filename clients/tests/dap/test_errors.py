@@ -181,7 +181,7 @@ class TestFailures(Desk):
         assert "means nothing: ok" in self.refused("read line; echo ok; sleep 60")
 
     def test_an_answer_without_an_end(self) -> None:
-        assert "gave no answer" in self.refused("yes '| more'", timeout=0.3)
+        assert "gave no answer" in self.refused("yes | tr -d '\\n'", timeout=0.3)
 
     def test_it_dies_later(self) -> None:
         fake = self.script(f"head -n 1 | {REWIND} \"$@\"\nexit 7")
