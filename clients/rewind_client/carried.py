@@ -5,7 +5,7 @@ import json
 import os
 import shutil
 import subprocess
-from collections.abc import Sequence
+from collections.abc import Iterable, Sequence
 from typing import Any, NamedTuple, Optional
 
 from .errors import SourceRefused
@@ -52,7 +52,7 @@ class CarriedProgram(Program):
     def kind_of(self, function: str, name: str) -> str:
         return self.texts.kind(function, name)
 
-    def kind_moved(self, lines: Sequence[int]) -> str:
+    def kind_moved(self, lines: Iterable[int]) -> str:
         return next((self.moves.get(line, "") for line in lines if line in self.sources), "")
 
     def value(self, kind: str, value: str) -> str:

@@ -8,12 +8,14 @@ from typing import Optional, TypeVar
 from . import replies
 from .errors import RewindError
 from .meanings import meaning_of_refusal
-from .process import Process
+from .process import JSON, Process
 from .replies import Channel, Entry, Goroutine, KindWord, Ran, Reason, Reply
 
 # Commands that take steps or take them back, and all that change what a session does.
 MOVING = frozenset(("step", "run", "undo", "back", "redo", "order"))
 CHANGING = MOVING | frozenset(("break", "clear", "free"))
+# What only a client asks, and no user.
+QUERIES = frozenset(("about", "at"))
 
 # Blanks among the control characters, and characters that are not seen: a zero-width space, a byte order mark.
 CONTROL_BLANKS = re.compile("[\x0b\x0c\x1c-\x1f]")
@@ -55,6 +57,11 @@ class Core:
         self.kept = 0
         self.end: Optional[Reason] = None
         self.end_taken_back: Optional[Reason] = None
+
+    @property
+    def has_workers(self) -> bool:
+        """Whether others take steps too: then the plain program is asked, which answers no query."""
+        return self.process.manner is not JSON
 
     def ask(self, command: str) -> Reply:
         """The answer to any command, whatever it says."""

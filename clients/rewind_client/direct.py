@@ -9,10 +9,9 @@ from collections.abc import Sequence
 from enum import Enum
 from typing import NamedTuple
 
-from .follower import Follower
+from .facts import Fact, Verb
 from .names import step_number, step_of, step_owner
-from .notes import Note
-from .replies import Kind, KindWord
+from .replies import KindWord
 from .session import Session
 
 LOCAL = frozenset((KindWord.PURE, KindWord.CALL, KindWord.RETURN, KindWord.GO, KindWord.MAKE))
@@ -31,55 +30,49 @@ class EdgeKind(Enum):
 class Edge(NamedTuple):
     """A direct cause of a step."""
 
-    source: str
+    source: Fact
     kind: EdgeKind
 
 
 class DirectCauses:
-    """Finds direct causes in a log that the second session of a session has followed."""
+    """Finds direct causes in the log of a session."""
 
     def __init__(self, session: Session) -> None:
-        self.follower: Follower = session.follow()
-        self.entries = session.log()
-        self.kinds: dict[str, Kind] = {it.step: it.kind for it in self.entries}
+        self.facts = session.facts
+        self.core = session.queried()
         self.known: dict[str, dict[str, int]] = {}
 
-    def of(self, step: str) -> list[Edge]:
+    def of(self, fact: Fact) -> list[Edge]:
         """The direct causes of a kept step, in the order of the log."""
-        kind, before = self.kinds[step], self.before(step)
-        if kind.word in LOCAL and before and not self.kinds[before].waits:
+        waker = fact.wrote_last(fact.owner)
+        if step_owner(waker) == fact.owner:
+            waker = ""
+        if fact.kind.word in LOCAL and not waker:
             return []
-        sources = self.new_sources(step, before)
-        found = set(self.close_before(step, before) if kind.stops else self.unimplied(sources))
-        note = self.follower.notes.get(step)
-        met = [wait for wait in note.woke if takes_from(note, self.kinds[wait])] if note else []
-        waker = self.follower.wakers.get(before, "")
-        if waker and not kind.stops:
+        close = self.facts.closed_by(fact) if fact.kind.stops else None
+        found = {close.step} if close else set() if fact.kind.stops else set(self.unimplied(self.new_sources(fact)))
+        met = [wait for wait in fact.woke if takes_from(fact)]
+        if waker and not fact.kind.stops:
             found.add(waker)
         found.update(met)
-        order = {it.step: place for place, it in enumerate(self.entries)}
-        edges = [Edge(source, self.edge_kind(source, step, source in met, source == waker)) for source in found]
-        return sorted(edges, key=lambda edge: order[edge.source])
-
-    def before(self, step: str) -> str:
-        """The step before of the same goroutine, or an empty text."""
-        number = step_number(step)
-        return step_of(step_owner(step), number - 1) if number > 1 else ""
+        ordered = [step for step in self.core.causes(fact.step) if step in found] if len(found) > 1 else list(found)
+        return [Edge(it, edge_kind(it, fact, it.step in met, it.step == waker)) for it in self.facts.of_all(ordered)]
 
     def causes(self, step: str) -> dict[str, int]:
         """Of the steps that a step depends on, the number of the last one of each goroutine."""
         if step not in self.known:
             last: dict[str, int] = {}
-            for cause in self.follower.session().causes(step):
+            for cause in self.core.causes(step):
                 last[step_owner(cause)] = step_number(cause)
             self.known[step] = last
         return self.known[step]
 
-    def new_sources(self, step: str, before: str) -> list[str]:
+    def new_sources(self, fact: Fact) -> list[str]:
         """The last step of each other goroutine that a step depends on, and the one before it does not."""
-        known = self.causes(before) if before else {}
-        others = [(name, number) for name, number in self.causes(step).items() if name != step_owner(step)]
-        return [step_of(name, number) for name, number in others if number > known.get(name, 0)]
+        number = step_number(fact.step)
+        known = self.causes(step_of(fact.owner, number - 1)) if number > 1 else {}
+        others = [(name, last) for name, last in self.causes(fact.step).items() if name != fact.owner]
+        return [step_of(name, last) for name, last in others if last > known.get(name, 0)]
 
     def unimplied(self, sources: Sequence[str]) -> list[str]:
         """The sources on which no other one depends."""
@@ -88,43 +81,32 @@ class DirectCauses:
     def depends(self, step: str, earlier: str) -> bool:
         return self.causes(step).get(step_owner(earlier), 0) >= step_number(earlier)
 
-    def close_before(self, step: str, before: str) -> list[str]:
-        """The close that a fault met: that of its channel, where it is known, else the only one that is new."""
-        if not self.kinds[step].fault.endswith("Closed"):
-            return []
-        note = self.follower.notes.get(step)
-        closes = [it for it in self.entries if it.kind.word is KindWord.CLOSE]
-        if note and note.channel:
-            return [it.step for it in closes if self.channel_of(it.step) == note.channel][-1:]
-        new = [it.step for it in closes if not (before and self.depends(before, it.step))]
-        return new if len(new) == 1 else []
 
-    def channel_of(self, step: str) -> str:
-        note = self.follower.notes.get(step)
-        return note.channel if note else ""
-
-    def puts(self, step: str, word: KindWord) -> bool:
-        """Whether a step put a value into a buffer. A select that woke a receiver gave its value to that one."""
-        note = self.follower.notes.get(step)
-        return word is KindWord.BUFFER or (word is KindWord.PICK and note is not None and note.sends() and not note.woke)
-
-    def takes(self, step: str, word: KindWord) -> bool:
-        """Whether a step took a value out of a buffer."""
-        note = self.follower.notes.get(step)
-        return word is KindWord.TAKE or (word is KindWord.PICK and not (note and note.sends()))
-
-    def edge_kind(self, source: str, step: str, is_met: bool, is_waker: bool) -> EdgeKind:
-        from_word, to_word = self.kinds[source].word, self.kinds[step].word
-        if from_word is KindWord.GO:
-            return EdgeKind.START
-        if from_word is KindWord.CLOSE:
-            return EdgeKind.CLOSE
-        if is_met or (self.puts(source, from_word) and self.takes(step, to_word)):
-            return EdgeKind.MESSAGE
-        return EdgeKind.WAIT if is_waker else EdgeKind.ORDER
+def puts(fact: Fact) -> bool:
+    """Whether a step put a value into a buffer."""
+    return fact.sends() and not fact.woke
 
 
-def takes_from(note: Note, wait: Kind) -> bool:
-    """Whether a step took its value from the sender that it woke. Of two selects it is not known which of them sent."""
-    taken = note.kind.word is KindWord.PICK and wait.word is KindWord.SEND_WAIT
-    return note.kind.word is KindWord.MEET or taken
+def takes(fact: Fact) -> bool:
+    """Whether a step took a value out of a buffer."""
+    return fact.receives() and fact.kind.word in (KindWord.TAKE, KindWord.PICK)
+
+
+def takes_from(fact: Fact) -> bool:
+    """Whether a step took its value from the sender that it woke, and not out of a buffer."""
+    return fact.verb is Verb.RECEIVE and fact.kind.word is not KindWord.TAKE and not from_buffer(fact)
+
+
+def from_buffer(fact: Fact) -> bool:
+    """Whether a step took a value out of a buffer: it has written the place of the value there."""
+    return any(it.object == "slot" and it.of == fact.channel and it.wrote for it in fact.sources)
+
+
+def edge_kind(source: Fact, fact: Fact, is_met: bool, is_waker: bool) -> EdgeKind:
+    if source.kind.word is KindWord.GO:
+        return EdgeKind.START
+    if source.kind.word is KindWord.CLOSE:
+        return EdgeKind.CLOSE
+    if is_met or (puts(source) and takes(fact)):
+        return EdgeKind.MESSAGE
+    return EdgeKind.WAIT if is_waker else EdgeKind.ORDER

@@ -9,9 +9,9 @@ from dataclasses import dataclass
 from enum import Enum
 
 from . import replies
-from .core import step_command, step_words
+from .core import Core, step_words
 from .names import child_of, name_order, step_owner
-from .notes import Place
+from .facts import Place
 from .replies import Entry, KindWord, State
 from .session import Session
 from .waits import Wait, Waits
@@ -19,7 +19,6 @@ from .waits import Wait, Waits
 # Steps that the other goroutines get, and how many one gets before the next one.
 DRAIN = 2000
 DRAIN_PORTION = 8
-PORTION = 5000
 
 
 class Ending(Enum):
@@ -58,14 +57,14 @@ def drained(names: Callable[[], Sequence[str]], take: Callable[[list[str]], Sequ
 class Rest:
     """A session in which the goroutines of an ended one have gone on."""
 
-    def __init__(self, session: Session) -> None:
-        self.session = Session(session.begin(), session.program, session.begin)
-        self.names: list[str] = ["g0"]
-        self.done: set[str] = {"g0"}
-        commands = [step_command(entry) for entry in session.log()[:-1]]
-        for at in range(0, len(commands), PORTION):
-            self.take(commands[at : at + PORTION])
+    def __init__(self, session: Session, core: Core) -> None:
+        """`core` stands where the session does, and its last step, the exit, is taken back."""
+        self.session = Session(core, session.program, session.begin)
+        core.undo()
+        self.names = session.goroutine_names()
         self.first = [it.name for it in session.goroutines() if it.state is not State.DONE and it.name != "g0"]
+        self.done = {*self.names} - {*self.first}
+        self.session.forget()
 
     def take(self, commands: list[str]) -> list[Entry]:
         """Takes steps, some of which may be refused."""
@@ -85,7 +84,7 @@ class Rest:
     def fates(self) -> tuple[list[Fate], list[Wait]]:
         """What would become of each goroutine, and what those wait for that would wait for ever."""
         drained(lambda: [it for it in self.names if it not in self.done], self.take)
-        last = self.session.log()[-1]
+        last = self.session.entry(-1)
         if last.kind.stops:
             owner = self.session.goroutine(step_owner(last.step))
             places = tuple(self.session.places(owner)) if owner else ()
@@ -102,8 +101,5 @@ def fates_of(session: Session) -> tuple[list[Fate], list[Wait]]:
     """What would become of the goroutines of a program that has ended, and the waits of those that would wait for ever."""
     if all(it.state is State.DONE or it.name == "g0" for it in session.goroutines()):
         return [], []
-    rest = Rest(session)
-    try:
-        return rest.fates()
-    finally:
-        rest.session.end()
+    with session.copied() as core:
+        return Rest(session, core).fates()

@@ -6,8 +6,7 @@ from enum import Enum
 from typing import Optional
 
 from .endings import Fate, fates_of
-from .notes import Note, Place
-from .operations import Verb
+from .facts import Fact, Place, Verb
 from .replies import Goroutine, KindWord, Reason, State, Variable
 from .session import Session
 from .waits import Wait, Waits, cycle_among
@@ -31,7 +30,7 @@ class Fault:
     places: tuple[Place, ...]
     variables: tuple[Variable, ...]
     channel: str = ""
-    closed_by: Optional[Note] = None
+    closed_by: Optional[Fact] = None
 
 
 @dataclass(frozen=True)
@@ -92,26 +91,23 @@ def standing_of(session: Session) -> Standing:
 
 def fault_of(session: Session) -> Optional[Fault]:
     """The fault in which the log ends."""
-    log = session.log()
-    if not log or log[-1].kind.word is not KindWord.FAULT:
+    last = next(iter(session.facts.tail(1)), None)
+    if last is None or last.kind.word is not KindWord.FAULT:
         return None
-    notes = session.notes()
-    last = notes[-1]
-    shown = session.goroutine(last.step.partition("#")[0])
+    shown = session.goroutine(last.owner)
     frame = shown.frames[0] if shown and shown.frames else None
-    places = (last.place, *last.callers)
-    closes = [it for it in notes if it.kind.word is KindWord.CLOSE and last.channel and it.channel == last.channel]
-    closed_by = closes[-1] if closes else None
+    places = (last.place, *session.callers(last.step))
+    closed_by = session.facts.closed_by(last)
     return Fault(last.kind.fault, last.step, places, frame.variables if frame else (), last.channel, closed_by)
 
 
 def starved(session: Session, waits: tuple[Wait, ...]) -> list[Starved]:
     """The clauses of selects that were passed over each time, though somebody waited for them."""
     picks: dict[tuple[str, Place], dict[int, int]] = {}
-    for note in session.notes():
-        if note.kind.word is KindWord.PICK:
-            of_select = picks.setdefault((note.step.partition("#")[0], note.place), {})
-            of_select[note.kind.clause] = of_select.get(note.kind.clause, 0) + 1
+    for fact in session.noted() if waits else []:
+        if fact.kind.word is KindWord.PICK:
+            of_select = picks.setdefault((fact.owner, fact.place), {})
+            of_select[fact.kind.clause] = of_select.get(fact.kind.clause, 0) + 1
     wishes = {wish.channel: (wait, wish.verb) for wait in waits for wish in wait.wishes}
     found = []
     for (name, place), taken in picks.items():

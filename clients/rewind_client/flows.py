@@ -10,7 +10,8 @@ from dataclasses import dataclass
 from enum import Enum
 from typing import NamedTuple, Optional
 
-from .operations import LENGTHS, Verb
+from .facts import Verb
+from .operations import LENGTHS
 from .tokens import Token
 
 LAST = 0.25

@@ -7,15 +7,13 @@ from __future__ import annotations
 
 from bisect import bisect_right
 from collections.abc import Callable, Generator
-from contextlib import closing
 from enum import Enum
-from itertools import count
+from itertools import count, islice
 from typing import AbstractSet, NamedTuple, Optional
 
-from .ledger import FRAMES
 from .names import name_order, step_owner
 from .replies import Entry, Goroutine, KindWord, Ran, Reason, State
-from .scout import last_step_at, lines_back
+from .scout import last_step_at
 from .session import Session
 from .watched import Watched
 
@@ -26,6 +24,8 @@ MAX_FRAMES = 1000
 MOST_LOOKED_AT = 100_000
 # Goroutines that are asked for in one go, until one is ready.
 ASKED = 64
+# What a step of a kind adds to the frames of its goroutine.
+FRAMES = {KindWord.CALL: 1, KindWord.RETURN: -1, KindWord.EXIT: -1}
 
 # Whether a breakpoint on a line is hit by a goroutine that comes there.
 Hit = Callable[[str, int], bool]
@@ -104,7 +104,7 @@ def stop_of_run(session: Session, run: Ran, goroutine: str) -> Stop:
 
 def next_in_turn(session: Session) -> str:
     """The goroutine whose turn it is after a run: the first that is ready behind the one of the last step."""
-    names, last = session.goroutine_names(), name_order(step_owner(session.log()[-1].step))
+    names, last = session.goroutine_names(), name_order(step_owner(session.entry(-1).step))
     first = bisect_right([name_order(name) for name in names], last)
     turns = names[first:] + names[:first]
     for at in range(0, len(turns), ASKED):
@@ -116,7 +116,7 @@ def next_in_turn(session: Session) -> str:
 
 def end(session: Session) -> Stop:
     """The program has ended, or a fault stopped it: the last step of the log tells which."""
-    last = session.log()[-1]
+    last = session.entry(-1)
     reason = StopReason.FAULT if last.kind.word is KindWord.FAULT else StopReason.ENDED
     return Stop(reason, step_owner(last.step), last)
 
@@ -198,7 +198,7 @@ def waited_for(
     shown = session.goroutine(start.name)
     assert shown is not None
     if leaves and shown.line != start.line:
-        return Stop(StopReason.STEP, start.name, session.log()[-1], shown.line)
+        return Stop(StopReason.STEP, start.name, session.entry(-1), shown.line)
     return (yield from go_on(shown._replace(line=start.line)))
 
 
@@ -215,8 +215,8 @@ def others(session: Session, waiting: Goroutine, lines: Lines, hit: Hit = always
         run = session.run(portion + again)
         shown = session.goroutine(waiting.name)
         if shown is not None and shown.steps > waiting.steps:
-            steps = enumerate(session.log()[before:], before)
-            session.cut(next(at for at, entry in steps if step_owner(entry.step) == waiting.name))
+            steps = enumerate(session.facts.tail(session.length() - before), before)
+            session.cut(next(at for at, fact in steps if fact.owner == waiting.name))
             return None
         taken += run.taken - again
         if run.reason is not Reason.COUNT:
@@ -243,7 +243,7 @@ def back_to(session: Session, place: int) -> Stop:
     if place < 0:
         session.cut(0)
         return Stop(StopReason.ENTRY, "g0")
-    step = session.log()[place].step
+    step = session.entry(place).step
     session.cut(place)
     shown = session.goroutine(step_owner(step))
     return Stop(StopReason.BREAKPOINT, step_owner(step), line=shown.line if shown else 0, before=step)
@@ -255,33 +255,29 @@ def line_before(session: Session, goroutine: Goroutine) -> str:
     A line that it has begun and not ended counts as the line before. Where the steps on that line are more than its statements
     have tokens, they are a loop, of which only the last step counts; so it is where the goroutine has not moved for long.
     """
-    log, widths, least = session.log(), session.program.widths, len(session.log()) - MOST_LOOKED_AT
-    depth, found, there, count = 0 if goroutine.frames else -1, "", (0, 0), 0
-    with closing(lines_back(session)) as stood:
-        for place, line in stood:
-            if place < least:
-                break
-            if step_owner(log[place].step) != goroutine.name:
-                continue
-            depth -= FRAMES.get(log[place].kind.word, 0)
-            if depth > 0:
-                continue
-            if found and (depth, line) != there:
-                break
-            found, there, count = log[place].step, (depth, line), count + 1
-            if count > widths.get(line, 0) + 1:
-                return goroutine.last_step
+    widths, depth, found, there, count = session.program.widths, 0 if goroutine.frames else -1, "", (0, 0), 0
+    for fact in islice(session.facts.backward(), MOST_LOOKED_AT):
+        if fact.owner != goroutine.name:
+            continue
+        depth -= FRAMES.get(fact.kind.word, 0)
+        if depth > 0:
+            continue
+        if found and (depth, fact.line) != there:
+            break
+        found, there, count = fact.step, (depth, fact.line), count + 1
+        if count > widths.get(fact.line, 0) + 1:
+            return goroutine.last_step
     return found or (goroutine.last_step if goroutine.steps else "")
 
 
 def last_at_line(session: Session, goroutine: str, line: int) -> str:
     """The step with which a goroutine last began a line; an empty text where it never came there."""
     found = ""
-    for note in reversed(session.notes()):
-        if step_owner(note.step) != goroutine:
+    for fact in reversed(session.noted()):
+        if fact.owner != goroutine:
             continue
-        if note.line == line:
-            found = note.step
+        if fact.line == line:
+            found = fact.step
         elif found:
             break
     return found

@@ -3,34 +3,24 @@ from __future__ import annotations
 
 from collections.abc import Iterator, Sequence
 from dataclasses import dataclass
-from enum import Enum
 
+from .facts import Verb
 from .tokens import Token
 
 LENGTHS = ("len", "cap")
-
-
-class Verb(Enum):
-    """What is done with a channel."""
-
-    SEND = "send to"
-    RECEIVE = "receive from"
-    CLOSE = "close"
-    LENGTH = "take the length of"
 
 
 @dataclass(frozen=True)
 class Operation:
     """One use of a channel: `channel` is the variable's name, or empty where it is no plain name.
 
-    `clause` is the number of a clause of a select, else 0, and `value` are the tokens of what is sent.
+    `clause` is the number of a clause of a select, else 0.
     """
 
     verb: Verb
     channel: str
     line: int
     clause: int = 0
-    value: tuple[str, ...] = ()
 
 
 @dataclass(frozen=True)
@@ -50,7 +40,7 @@ def operations_of(part: Sequence[Token], line: int, clause: int) -> Iterator[Ope
         following = text_at(part, place + 1)
         if token.text == "<-" and place and part[place - 1].ends_operand:
             channel = part[0].text if place == 1 and part[0].is_name else ""
-            yield Operation(Verb.SEND, channel, line, clause, tuple(it.text for it in part[place + 1 :]))
+            yield Operation(Verb.SEND, channel, line, clause)
         elif token.text == "<-" and following != "chan" and text_at(part, place - 1) != "chan":
             yield Operation(Verb.RECEIVE, plain_name(part, place + 1), line, clause)
         elif token.text == "range":

@@ -7,7 +7,7 @@ from __future__ import annotations
 
 import re
 from bisect import bisect_left
-from collections.abc import Sequence
+from collections.abc import Iterable, Sequence
 from typing import Optional
 
 from .errors import RewindError
@@ -55,7 +55,7 @@ class Program:
         """What the number in a variable stands for, or those in its channel: `text`, `error`, or an empty text for itself."""
         return ""
 
-    def kind_moved(self, lines: Sequence[int]) -> str:
+    def kind_moved(self, lines: Iterable[int]) -> str:
         """What a value stands for that goes over a channel on a line; the lines that called it follow."""
         return ""
 

@@ -10,10 +10,9 @@ from collections.abc import Iterator, Sequence
 from dataclasses import dataclass, field
 from typing import Optional
 
+from .facts import Place, Verb
 from .flows import Calling, Expression, Form, Giving, Use
 from .names import is_channel
-from .notes import Place
-from .operations import Verb
 from .program import Program
 from .replies import Channel, Goroutine, State
 from .walk import Function

@@ -4,10 +4,9 @@ from __future__ import annotations
 from collections.abc import Iterator, Sequence
 
 from .explanations import Explanation, Fault, Standing, Starved
+from .facts import Place, Verb
 from .meanings import DEADLOCK, FAULTS
 from .names import step_owner
-from .notes import Place
-from .operations import Verb
 from .endings import DRAIN, Ending, Fate
 from .session import Session
 from .waits import NIL, Hold, Server, Stand, Wait, Wish
@@ -85,7 +84,7 @@ class Sentences:
             name = self.session.name_of(fault.channel)
             close = fault.closed_by
             yield f"{name} was closed by {step_owner(close.step)} at {self.at(close.place)} ({close.step})"
-            yield from self.callers(close.callers)
+            yield from self.callers(self.session.callers(close.step))
             yield INDENT + f"'back {close.step}' takes the close back with all that depends on it"
 
     def waits(self, waits: Sequence[Wait]) -> Iterator[str]:

@@ -1,13 +1,10 @@
 """What single steps did, in words, and who is where."""
 from __future__ import annotations
 
-from typing import Optional
-
 from .direct import Edge, EdgeKind
+from .facts import Fact, Verb
 from .meanings import FAULTS
-from .names import step_number, step_of, step_owner
-from .notes import Note
-from .operations import Verb
+from .names import step_number, step_of
 from .replies import Channel, Goroutine, KindWord, State, Waiter
 from .session import Session
 
@@ -17,50 +14,51 @@ class Stories:
 
     def __init__(self, session: Session) -> None:
         self.session = session
-        self.made = session.ledger().made
 
-    def step(self, note: Note) -> str:
+    def step(self, fact: Fact) -> str:
         """What a step did; an empty text where it touched its own goroutine alone."""
-        word = note.kind.word
+        word = fact.kind.word
         plain = {
-            KindWord.RETURN: f"leaves {note.place.function}",
+            KindWord.RETURN: f"leaves {fact.place.function}",
             KindWord.EXIT: "ends the program",
-            KindWord.GO: f"starts {self.made.get(note.step, 'a goroutine')}",
-            KindWord.MAKE: f"makes {self.name(self.made.get(note.step, ''))}",
+            KindWord.GO: "starts " + " and ".join(fact.reached),
+            KindWord.MAKE: f"makes {self.name(fact.made)}" if fact.made else "",
             KindWord.DEFAULT: "takes the default case",
             KindWord.SELECT_WAIT: "waits on all cases",
-            KindWord.FAULT: FAULTS.get(note.kind.fault, note.kind.fault),
+            KindWord.FAULT: FAULTS.get(fact.kind.fault, fact.kind.fault),
         }
         if word in plain:
             return plain[word]
-        return self.use(note)
+        return self.use(fact)
 
-    def use(self, note: Note) -> str:
+    def use(self, fact: Fact) -> str:
         """A step that used a channel."""
-        name, value = self.name(note.channel), self.session.value_of(note)
-        partner = " or ".join(step_owner(wait) for wait in note.woke)
-        clause = f"case {note.kind.clause}: " if note.kind.clause else ""
-        if note.verb is Verb.CLOSE:
+        name, value = self.name(fact.channel), self.session.value_of(fact)
+        partner = " or ".join(fact.reached)
+        clause = f"case {fact.kind.clause}: " if fact.kind.clause else ""
+        if fact.verb is Verb.CLOSE:
             return f"closes {name}{', and wakes ' + partner if partner else ''}"
-        if note.verb is Verb.LENGTH:
+        if fact.verb is Verb.LENGTH:
             return f"takes the length of {name}"
-        if note.kind.waits:
-            return self.wait(note, name)
-        if note.verb is Verb.SEND:
+        if fact.kind.waits:
+            return self.wait(fact, name)
+        if fact.verb is Verb.SEND:
             return f"{clause}sends {value or 'a value'} to {name}{', to ' + partner if partner else ''}"
-        if note.verb is Verb.RECEIVE and note.kind.word is KindWord.CLOSED:
+        if fact.verb is Verb.RECEIVE and fact.kind.word is KindWord.CLOSED:
             return f"finds {name} closed and empty"
-        if note.verb is Verb.RECEIVE:
-            source = ", of " + partner if partner and note.kind.word is not KindWord.TAKE else ""
+        if fact.verb is Verb.RECEIVE:
+            source = ", of " + partner if partner and fact.kind.word is not KindWord.TAKE else ""
             return f"{clause}receives {value or 'a value'} from {name}{source}"
         return clause.rstrip(": ")
 
-    def wait(self, note: Note, name: str) -> str:
+    def wait(self, fact: Fact, name: str) -> str:
         """A step that began to wait, and what ended the wait."""
-        verb = Verb.SEND if note.kind.word is KindWord.SEND_WAIT else Verb.RECEIVE
-        wish = f"send {self.session.value_of(note)} to" if verb is Verb.SEND and note.value else verb.value
-        waker = self.session.follower.wakers.get(note.step, "")
-        value = self.session.value_of(self.session.follower.notes[waker]) if waker and note.verb is Verb.RECEIVE else ""
+        verb = Verb.SEND if fact.kind.word is KindWord.SEND_WAIT else Verb.RECEIVE
+        sent = self.session.value_of(fact) if verb is Verb.SEND else ""
+        wish = f"send {sent} to" if sent else verb.value
+        waker = self.session.facts.waker(fact.step)
+        by = self.session.facts.of(waker) if waker and fact.verb is Verb.RECEIVE else None
+        value = self.session.value_of(by) if by else ""
         until = f", until {waker}{' with ' + value if value else ''}" if waker else ""
         return f"waits to {wish} {name}{until}"
 
@@ -106,12 +104,13 @@ def waiter_in_words(waiter: Waiter, wish: str) -> str:
     return f"{waiter.goroutine} waits to {wish}{clause}"
 
 
-def relation(edge: Edge, source: Optional[Note], step: Optional[Note]) -> str:
+def relation(edge: Edge, step: Fact) -> str:
     """What a direct cause was to a step, in words."""
-    if edge.kind is EdgeKind.WAIT and step is not None:
-        return "which ended the wait of " + step_of(step_owner(step.step), step_number(step.step) - 1)
-    if edge.kind is not EdgeKind.ORDER or source is None or step is None or source.channel != step.channel or not source.channel:
-        return "which " + edge.kind.value
+    source = edge.source
+    if edge.kind is EdgeKind.WAIT:
+        return "which ended the wait of " + step_of(step.owner, step_number(step.step) - 1)
+    if edge.kind is not EdgeKind.ORDER or source.channel != step.channel or not source.channel:
+        return f"which {edge.kind.value}"
     if step.verb is Verb.RECEIVE and step.kind.waits and source.receives():
         return "which took the last value before it"
     if step.verb is Verb.SEND and step.kind.waits and source.sends():

@@ -1,8 +1,4 @@
-"""The value of a plain expression, from the variables of a frame.
-
-A reply tells the value of a send that waits or fills a buffer, and not of one that is handed over. So it is found from the text,
-where that holds no call and no receive.
-"""
+"""The value of a plain expression that a user writes, from the variables of a frame: one that holds no call and no receive."""
 from __future__ import annotations
 
 import re
@@ -76,14 +72,6 @@ class Told(NamedTuple):
 
     value: str
     why: str = ""
-
-
-def value_of(tokens: Sequence[str], variable: Callable[[str], str]) -> str:
-    """The value of an expression as Rewind writes it; an empty text where it can't be told.
-
-    `variable` gives the value of a variable, or an empty text.
-    """
-    return told_of(tokens, variable).value
 
 
 def unmeasured(_word: str, _channel: str) -> str:

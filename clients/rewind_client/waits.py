@@ -6,12 +6,11 @@ from dataclasses import dataclass, field, replace
 from enum import Enum
 from typing import NamedTuple, Optional
 
+from .facts import Place, Verb
 from .names import step_owner
-from .notes import Place
-from .operations import Verb
 from .replies import Channel, Goroutine, State
 from .roles import Roles
-from .session import MAX_CHANNELS, MAX_GOROUTINES, Session
+from .session import Session
 from .transfers import Transfers
 
 NIL = "nil"
@@ -119,8 +118,7 @@ class Waits:
         self.names = {it.name for it in self.goroutines}
         self.able: dict[tuple[Verb, str], tuple[Server, ...]] = {}
         self.same: dict[tuple[Verb, str], set[str]] = {}
-        known = self.session.ledger()
-        self.is_whole = max(len(known.goroutines) - MAX_GOROUTINES, len(known.channels) - MAX_CHANNELS) <= 0
+        self.is_whole = self.session.roster.is_whole()
 
     def all(self) -> list[Wait]:
         """The waits of all goroutines, in the order of their names."""
@@ -134,7 +132,8 @@ class Waits:
             if len({(wish.verb, wish.channel) for wish in wishes}) == 1:
                 self.same.setdefault((wishes[0].verb, wishes[0].channel), set()).add(name)
         self.roles = Roles(self.session.program, self.goroutines, list(places.values()), list(self.channels.values()))
-        self.transfers = Transfers(self.session, list(dict.fromkeys(it.channel for of in self.wishes.values() for it in of if it.channel != NIL)))
+        wished = dict.fromkeys(it.channel for of in self.wishes.values() for it in of if it.channel != NIL)
+        self.transfers = Transfers(self.session.noted() if wished else [], list(wished))
         return [
             Wait(it.name, places[it.name], it.last_step, tuple(self.served(it.name, wish) for wish in self.wishes[it.name]))
             for it in waiting
@@ -222,10 +221,10 @@ class Waits:
         return self.hold(waiting, wish, done[-1]) if done else None
 
     def hold(self, waiting: str, wish: Wish, step: str, value: str = "") -> Optional[Hold]:
-        note = self.session.follower.notes.get(step)
-        if note is None:
+        fact = self.session.facts.of(step)
+        if fact is None:
             return None
-        return Hold(step, note.place, note.callers, self.stand(waiting, wish, step_owner(step)), value)
+        return Hold(step, fact.place, self.session.callers(step), self.stand(waiting, wish, step_owner(step)), value)
 
     def stand(self, waiting: str, wish: Wish, name: str) -> Stand:
         if name == waiting:

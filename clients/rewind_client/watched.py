@@ -1,9 +1,12 @@
-"""What one can watch: a variable that is given a value, and a channel over which something goes."""
+"""What a user watches: variables of a name, and a channel over which something goes."""
 from __future__ import annotations
 
 from collections.abc import Callable
 from enum import Enum
 from typing import NamedTuple, Union
+
+from .facts import Fact, Verb
+from .replies import KindWord
 
 
 class Watch(NamedTuple):
@@ -16,9 +19,8 @@ class Watch(NamedTuple):
         """What a step did that is watched."""
         return f"gave {self.variable} a value"
 
-    def target(self, _number: int) -> str:
-        """What `back` takes back of it: the last time."""
-        return f"var {self.goroutine} {self.variable}"
+    def is_done_by(self, fact: Fact) -> bool:
+        return fact.owner == self.goroutine and self.variable in fact.given
 
 
 class Way(Enum):
@@ -26,6 +28,9 @@ class Way(Enum):
 
     SEND = "send"
     RECEIVE = "recv"
+
+
+VERBS = {Way.SEND: Verb.SEND, Way.RECEIVE: Verb.RECEIVE}
 
 
 class ChannelWatch(NamedTuple):
@@ -43,9 +48,8 @@ class ChannelWatch(NamedTuple):
         }
         return does[self.way, waits] % name_of(self.channel)
 
-    def target(self, number: int) -> str:
-        """What `back` takes back of it: the time of a number, counted from 1."""
-        return f"{self.way.value} {self.channel} {number}"
+    def is_done_by(self, fact: Fact) -> bool:
+        return fact.channel == self.channel and fact.verb is VERBS[self.way] and fact.kind.word is not KindWord.FAULT
 
 
 Watched = Union[Watch, ChannelWatch]

@@ -4,7 +4,7 @@ from __future__ import annotations
 import re
 
 from rewind_client.motion import last_at_line
-from rewind_client.names import CHANNEL, is_channel, step_owner
+from rewind_client.names import CHANNEL, is_channel
 from rewind_client.replies import State
 
 from .arguments import Arguments
@@ -51,7 +51,7 @@ class Offers(Handlers):
         line = debuggee.session.program.statement_at(arguments.number("line") - debuggee.first_line + 1)
         if line is None or not debuggee.breakpoints.is_here(path):
             return {"targets": []}
-        were_there = dict.fromkeys(step_owner(note.step) for note in debuggee.session.notes() if note.line == line)
+        were_there = dict.fromkeys(fact.owner for fact in debuggee.session.noted() if fact.line == line)
         names = sorted(were_there, key=lambda name: name != debuggee.focus)[:MAX_OFFERS]
         return {"targets": [self.goto_target(debuggee, name, line) for name in names]}
 

@@ -8,7 +8,6 @@ from rewind_client import motion
 from rewind_client.endings import Ending, fates_of
 from rewind_client.errors import RewindError
 from rewind_client.explanations import explain
-from rewind_client.follower import NOTED
 from rewind_client.meanings import DEADLOCK, FAULTS
 from rewind_client.motion import StopReason
 from rewind_client.replies import Entry, Goroutine, Reason
@@ -79,7 +78,7 @@ def stuck(session: Session, name: str) -> Stop:
 
 def deadlock(session: Session) -> str:
     """Who waits for whom; of a log that is long to read, only that `why` tells it."""
-    if len(session.log()) > NOTED:
+    if not session.is_noted():
         return DEADLOCK + "\n'why' tells who waits for whom"
     return "\n".join(Sentences(session).all(explain(session)))
 

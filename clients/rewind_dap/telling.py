@@ -6,8 +6,8 @@ from typing import TYPE_CHECKING, Any
 
 from rewind_client.core import Refused
 from rewind_client.errors import RewindError
-from rewind_client.follower import NOTED
 from rewind_client.prints import printing_lines
+from rewind_client.replies import State
 
 from .debuggee import Debuggee
 from .launching import described
@@ -53,10 +53,9 @@ def tell_printed(adapter: Adapter, debuggee: Debuggee, lines: list[str]) -> None
 def statements_of(debuggee: Debuggee) -> list[int]:
     """The line of the statement of each printed line; none where they are not all known."""
     try:
-        is_noted = len(debuggee.session.log()) <= NOTED
-        found = printing_lines(debuggee.session) if is_noted else []
+        found = printing_lines(debuggee.session)
     except RewindError:
-        # The second session failed. Where it was the first one, the next question tells so.
+        # The next question tells so.
         return []
     return found if len(found) == len(debuggee.printed) else []
 
@@ -64,10 +63,10 @@ def statements_of(debuggee: Debuggee) -> list[int]:
 def tell_threads(adapter: Adapter, debuggee: Debuggee) -> None:
     """Tells which goroutines came into being or live again, and which are done or were taken back."""
     try:
-        done, listed = debuggee.session.ledger().done, debuggee.view.listed(debuggee.focus)
+        listed = debuggee.view.listed(debuggee.focus)
+        now = {one.name for one in debuggee.session.goroutines(listed) if one.state is not State.DONE}
     except Refused:
         return
-    now = {name for name in listed if name not in done}
     for name in [name for name in listed if name in now - debuggee.alive]:
         tell_thread(adapter, debuggee, "started", name)
     for name in sorted(debuggee.alive - now, key=debuggee.view.thread_number):

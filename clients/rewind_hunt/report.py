@@ -219,15 +219,12 @@ class Report:
         reducer.from_start(commands)
         reducer.now()
         session = reducer.session()
-        try:
-            explanation, sentences = explain(session), Sentences(session)
-            if found.kind is Kind.LEAK:
-                at = {one.name for one in session.goroutines() if spots([one])[0] in found.spots}
-                lines = list(sentences.waits([wait for wait in explanation.waits if wait.goroutine in at]))
-            else:
-                lines = sentences.all(explanation)
-        finally:
-            session.follower.end()
+        explanation, sentences = explain(session), Sentences(session)
+        if found.kind is Kind.LEAK:
+            at = {one.name for one in session.goroutines() if spots([one])[0] in found.spots}
+            lines = list(sentences.waits([wait for wait in explanation.waits if wait.goroutine in at]))
+        else:
+            lines = sentences.all(explanation)
         if len(lines) > most and not self.is_full:
             lines = [*lines[: most - 1], f".. (--full shows {counted(len(lines) - most + 1, 'line')} more)"]
         return ["    " + line for line in lines]

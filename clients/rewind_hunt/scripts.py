@@ -15,7 +15,7 @@ from rewind_client.session import Session
 
 from .hunting import Found, Hunt
 from .outcomes import Judge, Kind, Outcome, Spot, spots, stopped_at_last
-from .schedules import End, Schedule, Scheduler
+from .schedules import End, Schedule
 
 MOST_STEPS = 6000
 # The steps of a longer script stay in the order of their schedule.
@@ -96,7 +96,6 @@ class Reducer:
         session = self.session()
         explanation = explain(session)
         names = explanation.cycle if cycle_alone and explanation.cycle else [wait.goroutine for wait in explanation.waits]
-        session.follower.end()
         return [wait.since for wait in explanation.waits if wait.goroutine in names]
 
     def session(self) -> Session:
@@ -112,8 +111,9 @@ class Reducer:
         return [last[one.name] for one in shown if not at or spots([stopped_at_last(one)])[0] in at]
 
     def prints(self, entries: Sequence[Entry]) -> list[str]:
-        """The steps that printed, in their order."""
-        return printing(self.scheduler, entries)
+        """The steps that printed, in their order; the process stands behind these steps."""
+        self.from_start([step_command(entry) for entry in entries])
+        return [fact.step for fact in self.session().noted() if fact.prints]
 
     def causes(self, entries: Sequence[Entry], targets: Sequence[str]) -> list[Entry]:
         """The entries of steps that some steps depend on."""
@@ -208,16 +208,3 @@ class Reducer:
         if not schedule.stopped:
             self.scheduler.ends_stuck()
         return schedule
-
-
-def printing(scheduler: Scheduler, entries: Sequence[Entry]) -> list[str]:
-    """The steps that print, found by taking the steps again from the start; the process stands at their end then."""
-    scheduler.go_to_start()
-    counts = []
-    commands: list[str] = []
-    for entry in entries:
-        commands += [step_command(entry), "console"]
-    scheduler.commands += len(commands)
-    for reply in scheduler.core.process.ask_all(commands)[1::2]:
-        counts.append(len(replies.lines_within(reply)))
-    return [entry.step for entry, before, after in zip(entries, [0, *counts], counts) if after > before]

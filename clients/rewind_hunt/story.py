@@ -4,13 +4,12 @@ from __future__ import annotations
 from collections.abc import Callable, Sequence
 from typing import NamedTuple, Optional
 
-from rewind_client.core import Core, step_command
+from rewind_client.core import Core
+from rewind_client.facts import Fact, Verb
 from rewind_client.meanings import FAULTS
-from rewind_client.names import channel_of, child_of, step_owner
-from rewind_client.notes import Note
-from rewind_client.operations import Verb
+from rewind_client.names import step_number, step_of
 from rewind_client.program import Program
-from rewind_client.replies import Entry, KindWord, lines_within
+from rewind_client.replies import KindWord
 from rewind_client.session import Session
 
 from .scripts import Script
@@ -42,58 +41,28 @@ class Story:
         try:
             session.core.ask_all(list(script.commands))
             session.forget()
-            notes = session.notes()
-            return grouped(self.one_by_one(session, script, notes))
+            facts = session.noted()
+            session.values.learn(facts)
+            return grouped(self.one_by_one(session, script, facts))
         finally:
             session.end()
 
-    def one_by_one(self, session: Session, script: Script, notes: Sequence[Note]) -> list[Told]:
-        by_turns = len(notes) - (len(script.commands) - 1) if script.commands[0].startswith("run ") else 0
+    def one_by_one(self, session: Session, script: Script, facts: Sequence[Fact]) -> list[Told]:
+        by_turns = len(facts) - (len(script.commands) - 1) if script.commands[0].startswith("run ") else 0
         commands = [script.commands[0]] * by_turns + list(script.commands[1 if by_turns else 0 :])
-        sentences = Sentences(session, notes, prints(self.begin, script.entries))
-        return [Told(command, 1, sentences.of(note), note.line, note.step) for command, note in zip(commands, notes)]
-
-
-def prints(begin: Callable[[], Core], entries: Sequence[Entry]) -> dict[str, str]:
-    """What the steps print: the console grows by a line with each that does."""
-    core = begin()
-    try:
-        asked = [command for entry in entries for command in (step_command(entry), "console")]
-        consoles = core.ask_all(asked)[1::2]
-    finally:
-        core.process.end()
-    found: dict[str, str] = {}
-    count = 0
-    for entry, reply in zip(entries, consoles):
-        lines = lines_within(reply)
-        if len(lines) > count:
-            found[entry.step] = lines[-1]
-        count = len(lines)
-    return found
+        sentences = Sentences(session)
+        return [Told(command, 1, sentences.of(fact), fact.line, fact.step) for command, fact in zip(commands, facts)]
 
 
 class Sentences:
     """A sentence for each step."""
 
-    def __init__(self, session: Session, notes: Sequence[Note], printed: dict[str, str]) -> None:
+    def __init__(self, session: Session) -> None:
         self.session = session
-        self.printed = printed
-        self.after: dict[str, Note] = {}
-        self.numbers: dict[str, int] = {}
-        counts: dict[tuple[str, KindWord], int] = {}
-        last: dict[str, Note] = {}
-        for note in notes:
-            owner = step_owner(note.step)
-            counts[owner, note.kind.word] = counts.get((owner, note.kind.word), 0) + 1
-            self.numbers[note.step] = counts[owner, note.kind.word]
-            if owner in last:
-                self.after[last[owner].step] = note
-            last[owner] = note
 
-    def of(self, note: Note) -> str:
+    def of(self, fact: Fact) -> str:
         """What a step does, with its goroutine as the subject."""
-        owner = step_owner(note.step)
-        tells: dict[KindWord, Callable[[Note], str]] = {
+        tells: dict[KindWord, Callable[[Fact], str]] = {
             KindWord.PURE: self.pure, KindWord.CALL: self.call, KindWord.RETURN: lambda it: "returns from " + it.place.function,
             KindWord.EXIT: lambda _: "returns from main, which ends the program", KindWord.GO: self.go, KindWord.MAKE: self.make,
             KindWord.LENGTH: lambda it: "takes the length of " + self.channel(it), KindWord.HAND: self.hand,
@@ -106,47 +75,51 @@ class Sentences:
             KindWord.SELECT_WAIT: lambda _: "waits at a select", KindWord.CLOSE: lambda it: "closes " + self.channel(it),
             KindWord.FAULT: self.fault,
         }  # fmt: skip
-        return f"{owner} {tells[note.kind.word](note)}"
+        return f"{fact.owner} {tells[fact.kind.word](fact)}"
 
-    def channel(self, note: Note) -> str:
-        return self.session.name_of(note.channel) if note.channel else "a channel"
+    def channel(self, fact: Fact) -> str:
+        return self.session.name_of(fact.channel) if fact.channel else "a channel"
 
-    def value(self, note: Note) -> str:
-        return {"": "a value", "{}": "a token"}.get(note.value, self.session.value_of(note))
+    def value(self, fact: Fact) -> str:
+        value = self.session.value_of(fact)
+        return {"": "a value", "{}": "a token"}.get(value, value)
 
-    def partner(self, note: Note) -> str:
-        return step_owner(note.woke[0]) if note.woke else "another goroutine"
+    def partner(self, fact: Fact) -> str:
+        return next(iter(fact.reached), "another goroutine")
 
-    def pure(self, note: Note) -> str:
-        return "prints: " + self.printed[note.step] if note.step in self.printed else "goes on"
+    def pure(self, fact: Fact) -> str:
+        return "prints: " + self.session.values.line(fact) if fact.prints else "goes on"
 
-    def call(self, note: Note) -> str:
-        after = self.after.get(note.step)
+    def call(self, fact: Fact) -> str:
+        after = self.session.facts.of(step_of(fact.owner, step_number(fact.step) + 1))
         return "calls " + after.place.function if after else "calls a function"
 
-    def go(self, note: Note) -> str:
-        child = child_of(step_owner(note.step), self.numbers[note.step])
-        function = self.session.program.functions.get(note.place.function)
-        starts = [it.function for it in function.calls if it.starts and it.line == note.line] if function else []
-        return f"starts {child}{f' ({starts[0]})' if len(starts) == 1 else ''}"
+    def go(self, fact: Fact) -> str:
+        child = " and ".join(fact.reached)
+        return f"starts {child}{self.began(fact, child)}"
 
-    def make(self, note: Note) -> str:
-        return "makes " + self.session.name_of(channel_of(step_owner(note.step), self.numbers[note.step]))
+    def began(self, fact: Fact, child: str) -> str:
+        """The function of a goroutine that a step started."""
+        shown = self.session.shown_at(self.session.place(fact.step), child)
+        return f" ({shown.frames[0].function})" if shown and shown.frames else ""
 
-    def hand(self, note: Note) -> str:
-        return f"hands {self.value(note)} to {self.partner(note)}, which waits at {self.channel(note)}"
+    def make(self, fact: Fact) -> str:
+        return "makes " + self.session.name_of(fact.made)
 
-    def meet(self, note: Note) -> str:
-        return f"takes {self.value(note)} from {self.partner(note)}, which waits at {self.channel(note)}"
+    def hand(self, fact: Fact) -> str:
+        return f"hands {self.value(fact)} to {self.partner(fact)}, which waits at {self.channel(fact)}"
 
-    def pick(self, note: Note) -> str:
-        verb = {Verb.SEND: "sends %s to", Verb.RECEIVE: "receives %s from"}.get(note.verb or Verb.LENGTH)
-        does = " and " + verb % self.value(note) + " " + self.channel(note) if verb else ""
-        return f"takes case {note.kind.clause} of a select{does}"
+    def meet(self, fact: Fact) -> str:
+        return f"takes {self.value(fact)} from {self.partner(fact)}, which waits at {self.channel(fact)}"
 
-    def fault(self, note: Note) -> str:
-        why = FAULTS.get(note.kind.fault, note.kind.fault)
-        return f"stops with {why} ({note.kind.fault}){' at ' + self.channel(note) if note.channel else ''}"
+    def pick(self, fact: Fact) -> str:
+        verb = {Verb.SEND: "sends %s to", Verb.RECEIVE: "receives %s from"}.get(fact.verb or Verb.LENGTH)
+        does = " and " + verb % self.value(fact) + " " + self.channel(fact) if verb else ""
+        return f"takes case {fact.kind.clause} of a select{does}"
+
+    def fault(self, fact: Fact) -> str:
+        why = FAULTS.get(fact.kind.fault, fact.kind.fault)
+        return f"stops with {why} ({fact.kind.fault}){' at ' + self.channel(fact) if fact.channel else ''}"
 
 
 def grouped(told: Sequence[Told]) -> list[Told]:

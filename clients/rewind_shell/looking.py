@@ -8,12 +8,12 @@ from rewind_client.carried import CarriedProgram
 from rewind_client.direct import DirectCauses
 from rewind_client.explanations import explain
 from rewind_client.expressions import evaluated
-from rewind_client.follower import NOTED
-from rewind_client.names import is_channel, is_goroutine, is_step, step_number, step_of, step_owner
-from rewind_client.notes import Note
+from rewind_client.facts import Fact
+from rewind_client.names import is_channel, is_goroutine, is_step, step_number, step_of
 from rewind_client.program import Program
 from rewind_client.replies import Goroutine
 from rewind_client.sentences import Sentences
+from rewind_client.session import NOTED
 from rewind_client.stories import Stories, relation
 
 from .desk import Desk
@@ -132,16 +132,15 @@ class Looking:
     def tell_reading(self) -> None:
         """Says at a terminal that the log is read, before that takes long."""
         session = self.shell.session
-        if self.screen.is_terminal and len(session.log()) - len(session.follower.entries) > LONG:
+        if self.screen.is_terminal and min(session.length(), NOTED) - len(session.facts.rows) > LONG:
             self.screen.say("reading the log ..", "note")
             self.screen.flush()
 
     def tell_limit(self) -> None:
         """Says where a log is so long that the first of its steps are not noted."""
-        number = len(self.shell.session.log())
-        if number > NOTED:
+        if not self.shell.session.is_noted():
             told = "(lines, channels and values are known of the last %d of %d steps: what came of the others is not told here)"
-            self.screen.say(told % (NOTED, number), "note")
+            self.screen.say(told % (NOTED, self.shell.session.length()), "note")
 
     # Frames and the source.
 
@@ -225,7 +224,7 @@ class Looking:
 
     def channels_called(self, name: str) -> bool:
         """Tells the channels that other replies call so; whether there are some."""
-        found = self.shell.session.channels_named(name) if name.isidentifier() else []
+        found = self.shell.session.variables.named(name) if name.isidentifier() else []
         for channel in found:
             self.one_channel(channel)
         return bool(found)
@@ -254,65 +253,60 @@ class Looking:
     # Steps.
 
     def history(self, words: list[str]) -> None:
-        self.tell_reading()
-        notes = self.shell.session.notes()
         wanted = words[0] if words else str(SHOWN_STEPS)
-        chosen = self.selected(notes, wanted)
+        chosen = self.selected(wanted)
         if chosen is None:
             self.screen.say(
                 "history wants a number, a goroutine, a channel or 'all': history 20, history g0.1, history g0/c1", "error"
             )
             return
         stories = Stories(self.shell.session)
-        left_out = len(self.shell.session.log()) - len(chosen)
+        left_out = self.shell.session.length() - len(chosen)
         if (wanted.isdigit() or wanted == "all") and left_out > 0:
             self.screen.say(f"({left_out} steps before these)", "faint")
-        for note in chosen:
-            self.screen.row(row(stories, self.shell.program, note))
+        self.shell.session.values.learn(chosen)
+        for fact in chosen:
+            self.screen.row(row(stories, self.shell.program, fact))
             if self.shell.interrupts.pending():
                 return
         if not wanted.isdigit() or int(wanted) > len(chosen):
             self.tell_limit()
 
-    def selected(self, notes: list[Note], wanted: str) -> Optional[list[Note]]:
+    def selected(self, wanted: str) -> Optional[list[Fact]]:
         """The steps that a word of `history` is about; none where it is no such word."""
+        session = self.shell.session
         if wanted.isdigit():
-            return notes[-int(wanted) :] if int(wanted) else []
-        if wanted == "all":
-            return notes
-        if is_goroutine(wanted):
-            return [it for it in notes if step_owner(it.step) == wanted]
-        channels = [wanted] if is_channel(wanted) else self.shell.session.channels_named(wanted)
-        return [it for it in notes if it.channel in channels] if channels else None
+            return session.facts.tail(min(int(wanted), NOTED)) if int(wanted) else []
+        channels = [] if wanted == "all" or is_goroutine(wanted) else [wanted] if is_channel(wanted) else session.variables.named(wanted)
+        if not channels and wanted != "all" and not is_goroutine(wanted):
+            return None
+        self.tell_reading()
+        return [it for it in session.noted() if wanted in ("all", it.owner) or it.channel in channels]
 
     def direct(self, words: list[str]) -> None:
         if len(words) != 1 or not is_step(words[0]):
             self.screen.say("direct wants a step: direct g0.1#3; 'log' and 'history' list them", "error")
             return
-        finder, step = DirectCauses(self.shell.session), words[0]
-        if step not in finder.kinds:
+        step, stories = words[0], Stories(self.shell.session)
+        fact = self.shell.session.facts.of(step)
+        if fact is None:
             self.screen.say(f"there is no step {step} in the log; 'log' and 'history' list them", "error")
             return
-        stories, notes = Stories(self.shell.session), self.shell.session.follow().notes
-        self.about(stories, step, notes, "")
-        edges = finder.of(step)
+        self.about(stories, fact, "")
+        edges = DirectCauses(self.shell.session).of(fact)
         for edge in edges:
-            self.about(stories, edge.source, notes, relation(edge, notes.get(edge.source), notes.get(step)))
+            self.about(stories, edge.source, relation(edge, fact))
         if not edges:
             own = (
-                f"; its own step before it is {step_of(step_owner(step), step_number(step) - 1)}"
+                f"; its own step before it is {step_of(fact.owner, step_number(step) - 1)}"
                 if step_number(step) > 1
                 else ""
             )
             self.screen.say(f"    it depends directly on no step of another goroutine{own}")
-        if any(name not in notes for name in [step, *(edge.source for edge in edges)]) or not edges:
-            self.tell_limit()
 
-    def about(self, stories: Stories, step: str, notes: dict[str, Note], related: str) -> None:
+    def about(self, stories: Stories, fact: Fact, related: str) -> None:
         """A step, and what it was to another one."""
-        note = notes.get(step)
-        told = row(stories, self.shell.program, note) if note else step
-        self.screen.row(f"{'    ' if related else ''}{told}")
+        self.screen.row(f"{'    ' if related else ''}{row(stories, self.shell.program, fact)}")
         if related:
             self.screen.say("        " + related, "faint")
 
@@ -321,8 +315,8 @@ def used(word: Word) -> str:
     return f"{word.use}{f' ({word.short})' if word.short else ''}"
 
 
-def row(stories: Stories, program: Program, note: Note) -> str:
+def row(stories: Stories, program: Program, fact: Fact) -> str:
     """A step with its kind, line and statement, and what it did."""
-    did, text = stories.step(note), program.line(note.line)
+    did, text = stories.step(fact), program.line(fact.line)
     shown = text if len(text) <= SHOWN_TEXT else text[: SHOWN_TEXT - 2] + ".."
-    return f"{note.step:<8} {note.kind!s:<11} {program.shown(note.line) or '':4}: {shown:<30} {did}".rstrip()
+    return f"{fact.step:<8} {fact.kind!s:<11} {program.shown(fact.line) or '':4}: {shown:<30} {did}".rstrip()

@@ -5,11 +5,10 @@ from collections.abc import Callable
 from typing import TYPE_CHECKING, Optional
 
 from rewind_client import motion
-from rewind_client.follower import NOTED
 from rewind_client.motion import Motion, Stop, StopReason
 from rewind_client.names import is_goroutine, is_step, step_owner
 from rewind_client.replies import Goroutine, Ran, Reason, State
-from rewind_client.session import Session
+from rewind_client.session import NOTED, Session
 
 from .words import HINTS
 
@@ -262,7 +261,7 @@ def no_variable(session: Session, name: str) -> str:
 
 def never_there(session: Session, chosen: str, line: str) -> str:
     """That a goroutine has not been on a line, as far as that is known."""
-    if len(session.log()) > NOTED:
+    if not session.is_noted():
         return f"{chosen} has taken no step on line {line} among the last {NOTED}, of which lines are known"
     return f"{chosen} has taken no step on line {line}"
 

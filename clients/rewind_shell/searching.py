@@ -56,8 +56,8 @@ class Searching:
         found = self.shell.blamed(states)
         self.screen.say(found.sentence)
         if found.step:
-            note = self.shell.session.follow().notes.get(found.step)
-            told = row(Stories(self.shell.session), self.shell.program, note) if note else found.step
+            fact = self.shell.session.facts.of(found.step)
+            told = row(Stories(self.shell.session), self.shell.program, fact) if fact else found.step
             self.screen.row(f"    {told}")
             number = len(self.shell.session.preview(found.step))
             self.screen.say(f"'back {found.step}' takes it back, {'alone' if number == 1 else f'with {number - 1} that depend on it'}")

@@ -176,7 +176,7 @@ class Shell:
         """A sentence for a program that goes no further."""
         session, standing = self.session, standing_of(self.session)
         if standing is Standing.FAULT:
-            last = session.log()[-1]
+            last = session.entry(-1)
             shown = session.goroutine(step_owner(last.step))
             _, line = self.program.outside([it.function for it in shown.frames], shown.line) if shown else ((), 0)
             place = f"{step_owner(last.step)} at {self.program.at(line)}"

@@ -7,7 +7,7 @@ from typing import Optional, TypeVar
 
 import pytest
 
-from rewind_client import motion, scout
+from rewind_client import facts, motion, scout
 from rewind_client.core import Core
 from rewind_client.motion import StopReason
 from rewind_client.names import step_owner
@@ -46,8 +46,9 @@ def place_by_undo(one: Session, lines: set[int]) -> int:
 
 @pytest.mark.parametrize("seed", range(12))
 def test_the_last_step_at_a_line(session: Open, seed: int, monkeypatch: pytest.MonkeyPatch) -> None:
-    monkeypatch.setattr(scout, "FIRST_PORTION", 2)
-    monkeypatch.setattr(scout, "MOST_COMMANDS", 40 if seed % 2 else 10**6)
+    monkeypatch.setattr(facts, "FIRST_PORTION", 2)
+    monkeypatch.setattr(facts, "KEPT", 8 if seed % 2 else 10**6)
+    monkeypatch.setattr(facts, "PORTION", 5)
     chance = random.Random(seed)
     one = session(PROGRAMS[seed % len(PROGRAMS)])
     for _ in range(60):
@@ -55,9 +56,7 @@ def test_the_last_step_at_a_line(session: Open, seed: int, monkeypatch: pytest.M
     if not one.log():
         one.run(5)
     lines = set(chance.sample(one.program.statements, 2))
-    found = [driven(last_step_at(one, lines))]
-    one.follow()
-    found.append(driven(last_step_at(one, lines)))
+    found = [driven(last_step_at(one, lines)) for _ in range(2)]
     by_turns = place_by_turns(one, lines)
     wanted = place_by_undo(one, lines)
     assert found == [wanted] * 2 and by_turns in (None, wanted)
@@ -65,7 +64,7 @@ def test_the_last_step_at_a_line(session: Open, seed: int, monkeypatch: pytest.M
 
 def test_a_log_by_turns_is_gone_through_by_runs(session: Open, monkeypatch: pytest.MonkeyPatch) -> None:
     monkeypatch.setattr(scout, "FAR", 100)
-    monkeypatch.setattr(scout, "lines_back", None)
+    monkeypatch.setattr(facts.Facts, "backward", None)
     one = session("starved_select")
     one.run(500)
     line = one.program.functions["main"].line + 1
@@ -81,11 +80,10 @@ def test_the_others_run_until_a_goroutine_can_go_on(session: Open, core: Callabl
         random_command(one, chance)
     waiting = [it for it in one.goroutines() if it.state is State.WAITING]
     for goroutine in waiting if not one.stopped_by() else []:
-        before = len(one.log())
+        before = one.length()
         stop = driven(motion.others(one, goroutine, set))
         shown = one.goroutine(goroutine.name)
         assert shown and shown.steps == goroutine.steps
-        assert all(step_owner(it.step) != goroutine.name for it in one.log()[before:])
         if stop is None:
             assert shown.state is State.READY
         else:

@@ -100,7 +100,7 @@ def test_direct_causes(session: Open) -> None:
     one.run(1000)
     finder = DirectCauses(one)
     edges: dict[str, list[str]] = {
-        entry.step: [f"{edge.source} {edge.kind.name}" for edge in finder.of(entry.step)] for entry in one.log()
+        fact.step: [f"{edge.source.step} {edge.kind.name}" for edge in finder.of(fact)] for fact in one.noted()
     }
     assert edges["g0#9"] == ["g0.1#9 CLOSE"]
     assert edges["g0.1#1"] == ["g0#4 START"]
@@ -112,8 +112,10 @@ def test_direct_causes(session: Open) -> None:
 def test_the_direct_cause_of_a_wait(session: Open) -> None:
     one = session("philosophers")
     one.run(1000)
-    found = DirectCauses(one).of("g0.1#3")
-    assert [(edge.source, edge.kind) for edge in found] == [("g0.2#1", EdgeKind.ORDER)]
+    wait = one.facts.of("g0.1#3")
+    assert wait
+    found = DirectCauses(one).of(wait)
+    assert [(edge.source.step, edge.kind) for edge in found] == [("g0.2#1", EdgeKind.ORDER)]
     assert len(one.core.causes("g0.1#3")) > 10
 
 
@@ -131,8 +133,8 @@ def kinds_into(one: Session, word: KindWord) -> list[EdgeKind]:
     for word_of_go, steps in (("g0", 3), ("g0.1", 2), ("g0", 1)):
         for _ in range(steps):
             one.step(word_of_go)
-    step = next(it.step for it in one.log() if it.kind.word is word and it.step.startswith("g0#"))
-    return [edge.kind for edge in DirectCauses(one).of(step)]
+    fact = next(it for it in one.noted() if it.kind.word is word and it.owner == "g0")
+    return [edge.kind for edge in DirectCauses(one).of(fact)]
 
 
 def test_a_select_that_sends_takes_nothing_out(session: Open) -> None:

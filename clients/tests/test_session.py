@@ -1,22 +1,19 @@
-"""Sessions: what they keep is what Rewind tells, and the notes of steps."""
+"""Sessions: what they keep is what Rewind tells, and the facts of steps."""
 from __future__ import annotations
 
 import random
-from collections.abc import Sequence
 from pathlib import Path
 
 import pytest
 
 from rewind_client.core import Refused, step_command
 from rewind_client.errors import Cancelled, RewindError
-from rewind_client.follower import Follower
-from rewind_client.ledger import Ledger
+from rewind_client.facts import Facts, Place, Verb
+from rewind_client.finding import Settings
 from rewind_client.motion import next_in_turn
-from rewind_client.notes import Place
 from rewind_client.opening import open_session
-from rewind_client.operations import Verb
 from rewind_client.process import never
-from rewind_client.replies import Entry, KindWord, State
+from rewind_client.replies import KindWord
 
 from opened import Open, random_command
 from support.places import EXAMPLES
@@ -56,17 +53,18 @@ def test_lines_of_callers_by_the_steps(session: Open) -> None:
         assert one.places(goroutine) == [Place("get", 3), Place("main", line)]
         while one.step("g0").kind.word is not KindWord.RETURN:
             pass
-    calls = [note.place for note in one.notes() if note.kind.word is KindWord.CALL]
+    calls = [fact.place for fact in one.noted() if fact.kind.word is KindWord.CALL]
     assert calls == [Place("main", 10), Place("main", 11)]
 
 
-def test_notes_of_channels_and_values(session: Open) -> None:
+def test_channels_and_values(session: Open) -> None:
     one = session("worker_pool")
     one.run(1000)
-    hands = [note for note in one.notes() if note.kind.word is KindWord.HAND and note.place.function == "worker"]
-    assert [note.value for note in hands] == ["1", "4", "9", "16", "25"]
-    assert {one.name_of(note.channel) for note in hands} == {"results (g0/c2)"}
-    assert all(note.verb is Verb.SEND and len(note.woke) == 1 for note in hands)
+    hands = [fact for fact in one.noted() if fact.kind.word is KindWord.HAND and fact.place.function == "worker"]
+    one.values.learn(hands)
+    assert [one.values.of(fact) for fact in hands] == ["1", "4", "9", "16", "25"]
+    assert {one.name_of(fact.channel) for fact in hands} == {"results (g0/c2)"}
+    assert all(fact.verb is Verb.SEND and len(fact.woke) == 1 for fact in hands)
 
 
 def test_the_channel_is_told_where_two_stand_on_a_line(session: Open) -> None:
@@ -75,7 +73,7 @@ def test_the_channel_is_told_where_two_stand_on_a_line(session: Open) -> None:
         "\tprintln(<-a, <-b)\n}\n"
     )
     one.run(100)
-    assert [(it.channel, it.value) for it in one.notes() if it.receives()] == [("g0/c1", "1"), ("g0/c2", "2")]
+    assert [(it.channel, one.values.of(it)) for it in one.noted() if it.receives()] == [("g0/c1", "1"), ("g0/c2", "2")]
 
 
 SHADOWED = """package main
@@ -107,8 +105,8 @@ def test_values_that_the_text_does_not_tell(session: Open) -> None:
         while one.stopped_by() is None:
             ready = [it.name for it in one.ready()]
             one.step(next((name for name in order if name in ready), ready[-1]))
-        assert [it.value for it in one.notes() if it.sends() and it.woke or it.receives() and it.woke] == ["2", "101", "49"]
-        assert one.core.log() == one.follow().session().log()
+        moved = [it for it in one.noted() if it.woke and (it.sends() or it.receives())]
+        assert [one.values.of(it) for it in moved] == ["2", "101", "49"]
 
 
 def test_a_fault_in_a_clause_of_a_select(session: Open) -> None:
@@ -123,8 +121,8 @@ def test_a_fault_in_a_clause_of_a_select(session: Open) -> None:
             one.step("g0", 2)
         except Refused:
             one.step("g0")
-    assert one.notes()[-1].kind.fault == "SendOnClosed"
-    assert one.notes()[-1].channel == "g0/c1"
+    assert one.noted()[-1].kind.fault == "SendOnClosed"
+    assert one.noted()[-1].channel == "g0/c1"
 
 
 def test_a_preview_changes_nothing(session: Open) -> None:
@@ -147,46 +145,23 @@ def test_what_is_kept_is_what_rewind_tells(session: Open, seed: int) -> None:
     for _ in range(120):
         random_command(one, chance)
         if chance.random() < 0.3:
-            one.follow()
-        assert one.log() == one.core.log()
-        assert len(one.log()) == one.core.kept
+            one.facts.tail(chance.randint(1, 20))
+        log = one.core.log()
+        assert len(log) == one.length() and (not log or one.entry(-1) == log[-1])
+        assert one.log() == log
         assert [one.core.show(it.name) for it in one.goroutines()] == one.goroutines()
         assert [one.core.channel(it.name) for it in one.channels()] == one.channels()
-        assert one.core.show(f"{'g0'}.{99}") is None
-    assert [note.step for note in one.notes()] == [entry.step for entry in one.log()]
-
-
-def test_the_second_session_begins_anew_where_it_ended(session: Open) -> None:
-    one = session("philosophers")
-    one.run(10)
-    notes = one.notes()
-    one.follow().session().process.end()
-    one.run(5)
-    assert one.notes()[:10] == notes
-
-
-def test_a_long_log_is_followed_by_its_commands(session: Open, monkeypatch: pytest.MonkeyPatch) -> None:
-    one, other = session("starved_select"), session("starved_select")
-    monkeypatch.setattr("rewind_client.follower.FAR", 200)
-    one.run(100)
-    one.core.set_breakpoint(22)
-    one.ask("clear 22")
-    one.run(900)
-    one.undo()
-    assert one.notes()[-1].step == one.log()[-1].step
-    assert any(command == "run 900" for command in one.follow().session().given)
-    monkeypatch.setattr("rewind_client.follower.FAR", 10**9)
-    other.run(999)
-    assert one.notes() == other.notes()
+        afresh = one.core.ask_all([f"about {at}" for at in (f"1 {max(1, len(log))}",)])[0].parts["about"]
+        assert [(it.step, it.line) for it in one.noted()] == [(row["id"], row["at"]["line"]) for row in afresh]
 
 
 def test_a_long_log_is_noted_at_its_end(session: Open, monkeypatch: pytest.MonkeyPatch) -> None:
-    monkeypatch.setattr("rewind_client.follower.NOTED", 100)
+    monkeypatch.setattr("rewind_client.session.NOTED", 100)
     one = session("starved_select")
     one.run(1000)
-    assert [note.step for note in one.notes()] == [entry.step for entry in one.log()[-100:]]
+    assert [fact.step for fact in one.noted()] == [entry.step for entry in one.log()[-100:]]
     one.back(one.log()[-150].step)
-    assert len(one.notes()) == min(100, len(one.log()))
+    assert len(one.noted()) == min(100, len(one.log()))
     assert step_command(one.log()[0]) == "step g0"
 
 
@@ -209,71 +184,74 @@ def test_a_run_that_was_not_waited_for(session: Open, monkeypatch: pytest.Monkey
     assert [it.name for it in one.goroutines()] == ["g0"]
 
 
-def test_following_that_is_left_begins_anew(session: Open) -> None:
-    one, stops = session("lost_update"), [False]
-    one.follow().session().process.cancelled = lambda: stops[0]
-    one.run(1000)
-    stops[0] = True
-    with pytest.raises(Cancelled):
-        one.notes()
-    assert len(one.notes()) == len(one.log())
-
-
 def test_a_long_log_costs_nothing_at_each_step(session: Open, monkeypatch: pytest.MonkeyPatch) -> None:
-    """Behind 100,000 steps a step is added to what is known of goroutines and channels, and nothing is walked anew."""
+    """Behind 100,000 steps of a run a step asks for few rows, and for the log not at all."""
     one = session("starved_select")
     one.run(100_000)
-    names, made = one.goroutine_names(), dict(one.ledger().made)
-    added: list[str] = []
-    add = Ledger.add
+    monkeypatch.setattr("rewind_client.session.NOTED", 100)
+    monkeypatch.setattr(one.core, "log", None)
+    names, asked = one.goroutine_names(), list[str]()
+    read = Facts.read
 
-    def counted(self: Ledger, entry: Entry) -> None:
-        added.append(entry.step)
-        add(self, entry)
+    def counted(self: Facts, queries: list[str]) -> object:
+        asked.extend(queries)
+        return read(self, queries)
 
-    monkeypatch.setattr(Ledger, "add", counted)
-    monkeypatch.setattr("rewind_client.follower.NOTED", 100)
-    compared: list[int] = []
-    common_with = Follower.common_with
-
-    def compares(self: Follower, log: Sequence[Entry], unchanged: int) -> int:
-        compared.append(unchanged)
-        return common_with(self, log, unchanged)
-
-    monkeypatch.setattr(Follower, "common_with", compares)
-    one.follow()
+    monkeypatch.setattr(Facts, "read", counted)
+    one.noted()
     for _ in range(50):
         one.step(next_in_turn(one))
         assert one.goroutine_names() == names
-        one.follow()
-    assert len(added) == 50
-    assert compared[1:] == list(range(100_000, 100_050))
-    one.undo()
-    assert one.ledger().made == made == Ledger(one.core.log()).made
+        assert len(one.noted()) == 100
+    assert len(asked) <= 101 and one.length() == 100_050
 
 
-def test_what_the_log_tells_of_goroutines_is_what_it_tells_from_the_start(session: Open) -> None:
+def test_names_are_those_of_the_log(session: Open) -> None:
+    """There are as many goroutines and channels as steps that start and make one."""
     one, chance = session("leak"), random.Random(4)
     for _ in range(200):
         random_command(one, chance)
-        afresh, kept = Ledger(one.log()), one.ledger()
-        assert (kept.made, kept.goroutines, kept.channels) == (afresh.made, afresh.goroutines, afresh.channels)
-        assert {it.name for it in one.goroutines() if it.state is State.DONE} == kept.done == afresh.done
+        words = [it.kind.word for it in one.log()]
+        assert len(one.goroutine_names()) == 1 + words.count(KindWord.GO)
+        assert len(one.channel_names()) == words.count(KindWord.MAKE)
+        assert one.roster.is_whole()
 
 
-def test_after_a_preview_the_steps_are_followed_on(session: Open) -> None:
-    """A preview takes steps back and again in the second session, where they stand in another order then."""
-    one = session("lost_update")
+def test_more_goroutines_than_are_told(session: Open, monkeypatch: pytest.MonkeyPatch) -> None:
+    monkeypatch.setattr("rewind_client.roster.MAX_GOROUTINES", 3)
+    one = session("leak")
     one.run(1000)
-    before, notes = list(one.log()), one.notes()
-    gone = len(one.preview("g0.1#5"))
-    assert gone < len(before) - [it.step for it in before].index("g0.1#5")
-    for _ in range(gone):
-        one.undo()
-    assert one.notes() == notes[:-gone]
-    for entry in before[-gone:]:
-        one.ask(step_command(entry))
-    assert one.notes() == notes
+    assert one.goroutine_names() == ["g0", "g0.1", "g0.2"] and not one.roster.is_whole()
+
+
+@pytest.mark.parametrize("seed", range(4))
+def test_facts_are_those_that_are_told_afresh(session: Open, seed: int, monkeypatch: pytest.MonkeyPatch) -> None:
+    """After random commands; and the values are those of a session that goes back from the end of the log."""
+    chance, one = random.Random(seed), session(["worker_pool", "starved_select", "philosophers", "lost_update"][seed])
+    for _ in range(60):
+        random_command(one, chance)
+        one.values.learn(one.facts.tail(chance.randint(1, 9)))
+    kept = {fact.step: (fact, one.values.of(fact)) for fact in one.noted()}
+    for few, many in ((0, 0), (10**9, 10**9)):
+        monkeypatch.setattr("rewind_client.moved.FEW", few)
+        monkeypatch.setattr("rewind_client.moved.MANY", many)
+        one.forget()
+        one.values.learn(one.noted())
+        assert {fact.step: (fact, one.values.of(fact)) for fact in one.noted()} == kept
+
+
+def test_beside_workers_a_second_session_is_asked(rewind: str, session: Open) -> None:
+    path = str(EXAMPLES / "lost_update.go")
+    one, other = open_session(rewind, path, Settings(workers=2)), session("lost_update")
+    for command in ("run 30", "back g0.1#2", "run 20"):
+        one.ask(command)
+        one.refresh()
+        other.ask(command)
+    assert one.core.has_workers and one.log() == other.log()
+    assert one.noted() == other.noted()
+    assert [one.values.of(it) for it in one.noted()] == [other.values.of(it) for it in other.noted()]
+    assert one.preview("var g0 x") == other.preview("var g0 x") if "x" in one.program.functions["main"].names else True
+    one.end()
 
 
 def test_a_copy_that_cannot_be_written_is_told(rewind: str, monkeypatch: pytest.MonkeyPatch) -> None:
@@ -281,9 +259,9 @@ def test_a_copy_that_cannot_be_written_is_told(rewind: str, monkeypatch: pytest.
     one.run(10)
     monkeypatch.setattr("tempfile.tempdir", "/nowhere")
     with pytest.raises(RewindError, match="lost_update.go cannot be written: No such file"):
-        one.notes()
+        one.preview("go g0.1")
     monkeypatch.setattr("tempfile.tempdir", None)
-    assert len(one.notes()) == 10
+    assert one.preview("go g0.1")
     one.end()
 
 
@@ -294,7 +272,14 @@ def test_a_second_session_reads_the_text_of_the_first(rewind: str, tmp_path: Pat
     assert one.source and not one.source.has_changed()
     path.write_text("package main\n\n\nfunc main() {\n\tprintln(2)\n}\n")
     one.run(10)
-    assert [note.line for note in one.notes()] == [3, 4] and one.source.has_changed()
+    with one.copied() as core:
+        assert core.console() == ["1"]
+    assert [fact.line for fact in one.noted()] == [3, 4] and one.source.has_changed()
     path.unlink()
     assert one.source.has_changed()
     one.end()
+
+
+def test_a_query_is_no_command_of_users(session: Open) -> None:
+    one = session("lost_update")
+    assert [one.ask(line).text for line in ("about 1 2", "at 0 show g0", "at")] == ["? bad command\n"] * 3

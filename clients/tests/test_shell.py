@@ -588,7 +588,7 @@ def test_a_value_is_told_where_its_receive_began(talk: Talk) -> None:
 
 
 def test_how_far_back_a_long_log_is_known_is_told(talk: Talk) -> None:
-    shown = answers(talk(example("starved_select"), "run 20005", "why", "history g0", "direct g0#1", "history 3").stdout)
+    shown = answers(talk(example("starved_select"), "run 20005", "why", "history g0", "history all", "history 3").stdout)
     told = "(lines, channels and values are known of the last 20000 of 20005 steps: what came of the others is not told here)"
     assert [lines[-1] for lines in shown[1:4]] == [told] * 3
     assert told not in shown[4]

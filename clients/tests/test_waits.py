@@ -326,7 +326,7 @@ func main() {
 def test_what_history_says_of_a_send_to_a_nil_channel(session: Open) -> None:
     one = session(HEAD + "func main() {\n\tvar c chan int\n\tc <- 1\n}\n")
     one.run(10)
-    assert Stories(one).step(one.notes()[-1]) == "waits to send to a channel"
+    assert Stories(one).step(one.noted()[-1]) == "waits to send to a channel"
 
 
 def test_of_two_sends_on_a_line_each_has_its_own_value(session: Open) -> None:
@@ -334,7 +334,7 @@ def test_of_two_sends_on_a_line_each_has_its_own_value(session: Open) -> None:
     one = session(HEAD + "func f(c chan int, n int) { c <- 3; c <- n }\nfunc main() {\n\tc := make(chan int)\n\tgo f(c, 1)\n\t<-c\n\t<-c\n}\n")
     for name in ["g0"] * 4 + ["g0.1", "g0", "g0.1"]:
         one.ask("step " + name)
-    assert [note.value for note in one.notes() if note.sends()] == ["3", "1"]
+    assert [one.values.of(fact) for fact in one.noted() if fact.sends()] == ["3", "1"]
 
 
 NOBODY_ENDS_IT = "package main\nfunc f() {\n\tselect {}\n}\nfunc main() {\n\tgo f()\n}\n"

@@ -33,9 +33,9 @@ def of_shell(program: str, path: Path, commands: Iterable[str]) -> Said:
             shell.obey(command)
         lines = [answer_of(shell, out, "why"), answer_of(shell, out, f"history {LAST}")]
         found = explain(shell.session)
-        notes = shell.session.notes()[-LAST:]
+        facts = shell.session.facts.tail(LAST)
         rows = [line for line in lines[1] if re.match(r"g0[.0-9]*#", line)]
-        steps = [{"id": note.step, "line": note.line, "value": note.value, "row": row} for note, row in zip(notes, rows)]
+        steps = [{"id": fact.step, "line": fact.line, "row": row} for fact, row in zip(facts, rows)]
         waits = [[wait.goroutine, list(wait.waits_for)] for wait in found.waits]
         return {"why": lines[0], "cycle": list(found.cycle), "waits": waits, "standing": found.standing.value, "steps": steps}
     finally:

@@ -184,12 +184,12 @@ class TestFailures(Desk):
         assert "gave no answer" in self.refused("yes | tr -d '\\n'", timeout=0.3)
 
     def test_it_dies_later(self) -> None:
-        fake = self.script(f"head -n 1 | {REWIND} \"$@\"\nexit 7")
+        fake = self.script(f"sed -u 2q | {REWIND} \"$@\"\nexit 7")
         assert self.launch(fake)["success"]
         self.client.event("initialized")
         self.client.body("configurationDone")
         self.client.stop()
-        assert "has ended" in self.client.ask("threads")["message"]
+        assert "has ended" in self.client.ask("evaluate", {"expression": "log", "context": "repl"})["message"]
         self.client.event("terminated")
         assert not self.client.ask("threads")["success"]
 
