@@ -114,12 +114,12 @@ def starved(session: Session, waits: tuple[Wait, ...]) -> list[Starved]:
         goroutine = session.goroutine(name)
         if goroutine is None or goroutine.state is State.DONE or goroutine.frames[0].function != place.function:
             continue
-        for operation in session.program.operations(place.function, place.line):
-            values = goroutine.frames[0].values_of(operation.channel)
+        for use in session.program.uses(place.function, place.line):
+            values = goroutine.frames[0].values_of(use.variable)
             channel = next((value for value in values if value in wishes), "")
             wait, verb = wishes.get(channel, (None, None))
-            meets = verb is not None and verb is not operation.verb and Verb.CLOSE is not operation.verb
-            if operation.clause and operation.clause not in taken and wait and meets:
+            meets = verb is not None and verb is not use.verb and Verb.CLOSE is not use.verb
+            if use.case and use.case not in taken and wait and meets:
                 counts = tuple(sorted(taken.items()))
-                found.append(Starved(name, place, operation.clause, channel, wait.goroutine, wait.since, counts))
+                found.append(Starved(name, place, use.case, channel, wait.goroutine, wait.since, counts))
     return found

@@ -46,7 +46,7 @@ class Part:
 
 @dataclass(frozen=True)
 class Use:
-    """A use of a channel; `value` is what is sent. A range keeps its channel."""
+    """A use of a channel; `value` is what is sent, and `case` the number of a case of a select, else 0. A range keeps its channel."""
 
     token: int
     at: float
@@ -55,6 +55,12 @@ class Use:
     channel: Optional[Expression]
     value: Optional[Expression] = None
     is_range: bool = False
+    case: int = 0
+
+    @property
+    def variable(self) -> str:
+        """The variable that holds the channel; an empty text where that is another expression."""
+        return self.channel.name if self.channel and self.channel.form is Form.NAME else ""
 
 
 @dataclass(frozen=True)
@@ -113,14 +119,14 @@ class Reading:
     # What is done.
 
     def uses(self) -> Iterator[Use]:
-        line, end = self.part.line, self.part.end
+        line, end, case = self.part.line, self.part.end, self.part.case
         for at in self.places():
             text = self.text(at)
             if text == "<-" and self.is_send(at):
-                yield Use(at, end + LAST, line, Verb.SEND, self.whole(self.part.begin, at), self.whole(at + 1, end))
+                yield Use(at, end + LAST, line, Verb.SEND, self.whole(self.part.begin, at), self.whole(at + 1, end), case=case)
             elif text == "<-" and self.is_receive(at):
                 channel, after = self.operand(at + 1)
-                yield Use(at, after - at * TINY, line, Verb.RECEIVE, channel)
+                yield Use(at, after - at * TINY, line, Verb.RECEIVE, channel, case=case)
             elif text == "range":
                 yield Use(at, end, line, Verb.RECEIVE, self.whole(at + 1, end), is_range=True)
             elif text == "close" and self.text(at + 1) == "(":

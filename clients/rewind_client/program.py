@@ -11,7 +11,7 @@ from collections.abc import Iterable, Sequence
 from typing import Optional
 
 from .errors import RewindError
-from .operations import Operation
+from .flows import Use
 from .tokens import all_tokens
 from .walk import Clause, Function, Walk
 
@@ -108,9 +108,9 @@ class Program:
         printing = [call.width for it in self.functions.values() for call in it.calls if call.function == "println"]
         return WIDEST * max(printing, default=0)
 
-    def operations(self, function: str, line: int) -> list[Operation]:
-        """What a statement of a function does with channels."""
-        found = self.functions[function].operations if function in self.functions else []
+    def uses(self, function: str, line: int) -> list[Use]:
+        """What a statement of a function does with channels, but for their lengths."""
+        found = self.functions[function].flows.uses if function in self.functions else []
         return [it for it in found if it.line == line]
 
 

@@ -166,8 +166,7 @@ class Waits:
 
     def uses_at(self, one: Goroutine) -> list[tuple[Verb, str, bool]]:
         """The uses of channels on the line of a goroutine: what is done, the variable, and whether it is a range."""
-        function = self.session.program.functions.get(one.frames[0].function) if one.frames else None
-        uses = [it for it in function.flows.uses if it.line == one.line] if function else []
+        uses = self.session.program.uses(one.frames[0].function, one.line) if one.frames else []
         return [(it.verb, it.channel.name if it.channel else "", it.is_range) for it in uses]
 
     def nil_wishes(self, one: Goroutine) -> list[Wish]:

@@ -6,7 +6,7 @@ from dataclasses import dataclass, field
 from typing import NamedTuple
 
 from .flows import Flows, Part, flows_of
-from .operations import Call, Operation, calls_of, operations_of, parameters_of
+from .operations import Call, calls_of, parameters_of
 from .tokens import Token
 
 END = Token("", 0)
@@ -21,7 +21,6 @@ class Function:
     last_line: int = 0
     parameters: list[str] = field(default_factory=list)
     names: set[str] = field(default_factory=set)
-    operations: list[Operation] = field(default_factory=list)
     calls: list[Call] = field(default_factory=list)
     parts: list[Part] = field(default_factory=list)
     # The places of the tokens of each loop that come again with each turn.
@@ -185,9 +184,8 @@ class Walk:
         return begin, min(self.at, len(self.tokens))
 
     def note(self, line: int, begin: int, end: int, clause: int = 0) -> None:
-        """Notes the calls and the uses of channels among some tokens."""
+        """Notes the calls among some tokens."""
         part = self.tokens[begin:end]
         self.widths[line] = self.widths.get(line, 0) + len(part)
         self.function.calls += calls_of(part, line)
-        self.function.operations += operations_of(part, line, clause)
         self.function.parts.append(Part(line, begin, end, clause))

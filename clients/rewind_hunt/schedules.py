@@ -117,7 +117,7 @@ class Scheduler:
         self.usual_steps = 0
         self.seed = seed
         self.most_steps = most_steps
-        self.clauses = max((it.clause for function in program.functions.values() for it in function.operations), default=0)
+        self.clauses = max((it.case for function in program.functions.values() for it in function.flows.uses), default=0)
         self.core = begin()
         self.commands = 0
         self.schedule = Schedule()

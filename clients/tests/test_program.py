@@ -64,17 +64,16 @@ def test_functions(program: Program) -> None:
     assert program.calling_lines("main", "pass") == []
 
 
-def test_operations(program: Program) -> None:
-    found = [(it.verb, it.channel, it.line, it.clause) for it in program.functions["pass"].operations]
+def test_uses_of_channels(program: Program) -> None:
+    found = [(it.verb, it.variable, it.line, it.case) for it in program.functions["pass"].flows.uses]
     assert found == [
         (Verb.RECEIVE, "first", 7, 0),
         (Verb.RECEIVE, "second", 7, 0),
         (Verb.RECEIVE, "first", 8, 1),
         (Verb.SEND, "second", 8, 2),
         (Verb.RECEIVE, "second", 14, 0),
-        (Verb.LENGTH, "first", 17, 0),
     ]
-    assert [it.verb for it in program.operations("main", 21)] == []
+    assert program.uses("main", 21) == [] and [it.case for it in program.uses("pass", 8)] == [1, 2]
 
 
 @pytest.mark.parametrize(
