@@ -17,6 +17,9 @@ func (f *function) value(e ast.Expr) Value {
 	if known.IsNil() {
 		return Value{Shape: Nothing{}, Binds: atom}
 	}
+	if found, ok := f.early[e]; ok {
+		return found
+	}
 	switch it := e.(type) {
 	case *ast.Ident:
 		return f.identifier(it)
@@ -199,8 +202,15 @@ func (f *function) zero(shape Shape) Value {
 	return found
 }
 
-// all translates expressions in their order. An obstacle in one does not keep those in the others from being noted. What acts before another one needs statements of its own is kept in variables.
+// all translates expressions in the order of Go. An obstacle in one does not keep those in the others from being noted. What acts
+// before another one needs statements of its own is kept in variables.
 func (f *function) all(list []ast.Expr) []Value {
+	defer f.callsFirst(list)()
+	return f.inOrderOfText(list)
+}
+
+// inOrderOfText translates expressions, each of which is found before the next one.
+func (f *function) inOrderOfText(list []ast.Expr) []Value {
 	var found []Value
 	failed := false
 	for _, e := range list {

@@ -44,8 +44,9 @@ type function struct {
 	instance *instance
 	names    map[string]bool
 	bound    map[types.Object]*binding
-	outs     [][]string   // for each result but the first, the channels of its leaves
-	named    []*types.Var // named results
+	early    map[ast.Expr]Value // calls that are found before what stands beside them
+	outs     [][]string         // for each result but the first, the channels of its leaves
+	named    []*types.Var       // named results
 	deferred []func(*function)
 	heads    []piece // declarations at its beginning
 	depth    int     // of blocks
@@ -68,7 +69,7 @@ type target struct {
 }
 
 func newFunction(p *program, it *instance, arguments, held []Shape) *function {
-	f := &function{program: p, instance: it, names: map[string]bool{}, bound: map[types.Object]*binding{}}
+	f := &function{program: p, instance: it, names: map[string]bool{}, bound: map[types.Object]*binding{}, early: map[ast.Expr]Value{}}
 	var params []string
 	at := 0
 	take := func(object *types.Var) {

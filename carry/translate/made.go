@@ -173,9 +173,10 @@ func (p *program) valueOf(it *form, code string, at int) string {
 
 // A slot is a part of what is printed or made: a text that is known, or an expression with the verb by which it is written.
 type slot struct {
-	text string
-	e    ast.Expr
-	verb byte
+	text    string
+	e       ast.Expr
+	verb    byte
+	isInner bool // whether it is a part of a text that is made here
 }
 
 // slots are the parts of an expression: of a text that is made here its own.
@@ -188,6 +189,9 @@ func (f *function) slots(e ast.Expr, verb byte) []slot {
 		return []slot{{e: e, verb: verb}}
 	}
 	if found, ok := f.slotsOfMaking(e); ok {
+		for at := range found {
+			found[at].isInner = true
+		}
 		return found
 	}
 	return []slot{{e: e, verb: verb}}
@@ -263,14 +267,18 @@ func (f *function) slotsOfFormat(node ast.Node, args []ast.Expr) []slot {
 // filledSlots gives slots their values: each of them becomes parts.
 func (f *function) filledSlots(groups [][]slot) [][]item {
 	var dynamic []ast.Expr
+	find := f.arguments
 	for _, group := range groups {
 		for _, it := range group {
 			if it.e != nil {
 				dynamic = append(dynamic, f.speaking(it.e, f.speakerOf(it.e, it.verb)))
 			}
+			if it.e != nil && it.isInner {
+				find = f.inOrderOfText
+			}
 		}
 	}
-	values := f.arguments(dynamic)
+	values := find(dynamic)
 	if len(values) != len(dynamic) {
 		return f.itemsOfAll(dynamic[0], values)
 	}

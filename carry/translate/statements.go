@@ -252,7 +252,11 @@ func (f *function) assign(it *ast.AssignStmt) {
 			f.lengthen(it)
 			return
 		}
-		f.update(it, it.Lhs[0], op, f.value(it.Rhs[0]), it.Tok.String())
+		value := f.value(it.Rhs[0])
+		if calls, _ := f.orderedIn(it.Rhs); len(calls) > 0 && f.readsShared(unparen(it.Lhs[0])) {
+			value = f.spill(value, "value")
+		}
+		f.update(it, it.Lhs[0], op, value, it.Tok.String())
 		return
 	}
 	if len(it.Lhs) == 2 && len(it.Rhs) == 1 && f.assignTwo(it) {
