@@ -150,6 +150,22 @@ func main() { loop(3, func() { println(1) }) }
     assert any("calls itself with other functions" in told for _, _, told in left(text, tmp_path))
 
 
+def test_a_panic_in_a_function_that_calls_itself(tmp_path: Path) -> None:
+    text = """package main
+
+func down(n int) {
+	defer println("leaving", n)
+	if n == 0 {
+		panic("bottom")
+	}
+	down(n - 1)
+}
+
+func main() { down(3) }
+"""
+    assert any(line == 8 and "calls itself with something deferred" in told for line, _, told in left(text, tmp_path))
+
+
 @pytest.mark.parametrize("form", ["(", "1 + ", "x.", "func() {", "[]", "*", "a, ", "/*", "`"])
 def test_a_mebibyte_of_one_form(form: str, tmp_path: Path) -> None:
     """A text of 1 MiB of one form is refused in words, and soon."""

@@ -207,6 +207,16 @@ func (s *Source) Uses(path, name string) bool {
 	return false
 }
 
+// Closes says whether the program closes a channel.
+func (s *Source) Closes() bool {
+	for _, it := range s.Info.Uses {
+		if builtin, ok := it.(*types.Builtin); ok && builtin.Name() == "close" {
+			return true
+		}
+	}
+	return false
+}
+
 // Check says whether Go accepts a program without packages.
 func Check(text string) error {
 	fset := token.NewFileSet()

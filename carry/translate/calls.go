@@ -17,6 +17,9 @@ func (f *function) called(it *ast.CallExpr) Value {
 
 // call translates a call, and gives its results.
 func (f *function) call(it *ast.CallExpr) []Value {
+	apart := f.isApart
+	f.isApart = false
+	defer func() { f.isApart = apart }()
 	if speaker := f.spoken[it]; speaker != nil {
 		return f.speak(it, speaker)
 	}
@@ -97,6 +100,13 @@ type callee struct {
 	code     []string
 }
 
+// prepareApart does so for a call in another goroutine, whose panics run nothing of what is deferred here.
+func (f *function) prepareApart(it *ast.CallExpr, fun Value) callee {
+	f.isApart = true
+	defer func() { f.isApart = false }()
+	return f.prepare(it, fun, nil, nil)
+}
+
 // prepare finds the instance of a function for arguments, and what it is given.
 func (f *function) prepare(it *ast.CallExpr, fun Value, receiver *Value, arguments []Value) callee {
 	shape := fun.Shape.(Func)
@@ -114,13 +124,14 @@ func (f *function) prepare(it *ast.CallExpr, fun Value, receiver *Value, argumen
 		shapes, code = append(shapes, value.Shape), append(code, value.Code...)
 	}
 	code = append(code, fun.Code...)
-	found := f.program.instance(shape.Body, shapes, shape.Held)
+	unwind := f.unwindingFor(shape.Body)
+	found := f.program.instance(shape.Body, shapes, shape.Held, unwind)
 	for _, object := range found.globals {
 		if f.globals[object] != nil {
 			code = append(code, f.namesFor(object)...)
 		}
 	}
-	return callee{found, code}
+	return callee{found, append(code, unwind.code()...)}
 }
 
 // namesFor are the names under which this function has a variable of the package.
@@ -282,7 +293,7 @@ func (f *function) builtin(it *ast.CallExpr, name string) []Value {
 	case "copy":
 		return []Value{f.copies(it)}
 	case "recover":
-		f.refuse(it, "recover", "recover is not carried: a panic stops the program, and can be taken back", "leave it out")
+		f.refuse(it, "recover", "recover is not carried: a panic stops the program, and can be taken back", "return an error in place of the panic")
 	}
 	f.refuse(it, "built-in", name+" is not carried", "")
 	return nil

@@ -8,9 +8,13 @@ import (
 // defers keeps a call for the end of the function. Its arguments are found now.
 func (f *function) defers(it *ast.DeferStmt) {
 	if lit, ok := unparen(it.Call.Fun).(*ast.FuncLit); ok && recovers(lit) {
-		f.refuse(it, "recover", "recover is not carried: a panic stops the program, and can be taken back", "leave it out")
+		f.refuse(it, "recover", "recover is not carried: a panic stops the program, and can be taken back", "return an error in place of the panic")
 	}
 	f.carry(it, "defer", "what is deferred is written at each return, the last first")
+	if f.mayFault[f.instance.body] && !f.tellsFaults {
+		f.program.tellsFaults = true
+		f.change(it, "defer", "where Go itself panics, as at a send on a closed channel, the program stops before what is deferred")
+	}
 	run := f.laterCall(it.Call)
 	if f.depth > 1 {
 		run = f.deferInBlock(it, run)
@@ -61,8 +65,8 @@ func (f *function) deferInBlock(it *ast.DeferStmt, run func(*function)) func(*fu
 		}
 	}
 	f.loopDefers++
-	if f.loopDefers > 1 || f.returnsBefore(it) {
-		f.refuse(it, "defer", "a defer within a loop is carried only by itself, and behind no return in the loop", "call it at the end of each turn, or put the turn into a function")
+	if f.loopDefers > 1 || f.returnsBefore(it) || f.panicsInLoop {
+		f.refuse(it, "defer", "a defer within a loop is carried only by itself, and behind no return and no panic in the loop", "call it at the end of each turn, or put the turn into a function")
 	}
 	f.hoist(name, "int")
 	f.emit(name + "++")
@@ -109,6 +113,7 @@ func (f *function) returnsBefore(place ast.Node) bool {
 
 // hoist declares a variable at the beginning of the function.
 func (f *function) hoist(name, t string) {
+	f.typed[name] = t
 	f.heads = append(f.heads, piece{"var " + name + " " + t, f.node().Pos(), plainPiece, ""})
 }
 

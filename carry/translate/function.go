@@ -45,6 +45,7 @@ type function struct {
 	names    map[string]bool
 	bound    map[types.Object]*binding
 	early    map[ast.Expr]Value // calls that are found before what stands beside them
+	typed    map[string]string  // the types of its variables
 	outs     [][]string         // for each result but the first, the channels of its leaves
 	named    []*types.Var       // named results
 	deferred []func(*function)
@@ -53,6 +54,11 @@ type function struct {
 	breaks   []target
 	at       token.Pos // of the statement that is translated
 	loops    int       // that have no label in the source
+
+	unwind       *unwinding            // what it runs at a panic of what its callers have deferred
+	unwindings   map[string]*unwinding // that it hands on, by their texts
+	isApart      bool                  // whether what is called now goes in another goroutine
+	panicsInLoop bool                  // whether a panic may come within a loop
 
 	loopDefers int    // statements of `defer` within loops
 	handed     string // what the values stand for that the present statement hands on
@@ -68,8 +74,15 @@ type target struct {
 	needsLabel bool
 }
 
+func blankFunction(p *program, it *instance) *function {
+	return &function{
+		program: p, instance: it, names: map[string]bool{}, bound: map[types.Object]*binding{}, early: map[ast.Expr]Value{},
+		typed: map[string]string{}, unwindings: map[string]*unwinding{},
+	}
+}
+
 func newFunction(p *program, it *instance, arguments, held []Shape) *function {
-	f := &function{program: p, instance: it, names: map[string]bool{}, bound: map[types.Object]*binding{}, early: map[ast.Expr]Value{}}
+	f := blankFunction(p, it)
 	var params []string
 	at := 0
 	take := func(object *types.Var) {
@@ -94,6 +107,7 @@ func newFunction(p *program, it *instance, arguments, held []Shape) *function {
 			params = append(params, f.heldParameter(object, known.shape)...)
 		}
 	}
+	params = append(params, f.unwindParameters()...)
 	params = append(params, f.results()...)
 	f.heading = "func " + it.name + "(" + strings.Join(params, ", ") + ")" + f.result() + " {"
 	return f
@@ -164,7 +178,7 @@ func (f *function) results() []string {
 	}
 	for n, leaf := range f.resultLeaves() {
 		if n > 0 {
-			name := f.name("result_" + itoa(n+1))
+			name := f.typedName("result_"+itoa(n+1), "chan "+leaf.Type)
 			f.outs = append(f.outs, []string{name})
 			params = append(params, name+" chan "+leaf.Type)
 		}
@@ -297,9 +311,12 @@ func zeroOf(t string) string {
 }
 
 func (f *function) runDeferred() {
-	for at := len(f.deferred) - 1; at >= 0; at-- {
-		f.deferred[at](f)
+	all := f.deferred
+	for at := len(all) - 1; at >= 0; at-- {
+		f.deferred = all[:at] // what is left if this one panics
+		all[at](f)
 	}
+	f.deferred = all
 }
 
 // attempt translates a part, and says whether that was done: an obstacle in it ends only this part. What the translation itself does not

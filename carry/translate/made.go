@@ -394,8 +394,3 @@ func (f *facts) wrapsErrors() bool {
 	})
 	return found
 }
-
-func isString(t types.Type) bool {
-	basic, ok := under(t).(*types.Basic)
-	return ok && basic.Info()&types.IsString != 0
-}

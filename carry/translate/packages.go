@@ -228,7 +228,7 @@ func afterFunc(f *function, it *ast.CallExpr) []Value {
 	f.change(it, "time", told[Timer])
 	made := f.spill(Value{Shape: Timer, Code: []string{f.typedZero("chan struct{}"), "make(chan struct{}, 1)"}, Binds: atom, Acts: true}, "timer")
 	fun := f.function(it.Args[1])
-	to := f.prepare(it, fun, nil, nil)
+	to := f.prepareApart(it, fun)
 	f.emit("go " + f.wrapper(fun, to, Timer) + "(" + commas(made.Code, to.code) + ")")
 	return []Value{made}
 }

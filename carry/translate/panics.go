@@ -15,8 +15,10 @@ func (f *function) panics(it *ast.CallExpr) {
 		text, values = strings.Trim(value.Value.ExactString(), `"`), values[1:]
 	}
 	f.drop(f.all(values))
-	f.change(it, "panic", "a panic is a fault: a call of a function named after it closes a nil channel; of what is deferred, that of this function alone is run")
+	f.change(it, "panic", "a panic is a fault: a call of a function named after it closes a nil channel, behind what is deferred")
+	f.panicsInLoop = f.panicsInLoop || f.isInLoop()
 	f.runDeferred()
+	f.unwindOn()
 	f.emit(f.fault(strings.TrimSuffix("panic_"+words(text), "_")) + "()")
 }
 

@@ -55,12 +55,14 @@ type program struct {
 	globals     map[types.Object]*binding
 	spoken      map[*ast.CallExpr]*body // calls of methods that say what is printed
 	done        map[*body]bool          // functions that were translated
+	active      []*instance             // that are translated now, each for a call in the one before
 	nesting     int                     // of functions that are translated for a call in another one
 	isExhausted bool                    // whether the functions nest too deeply
 	isSurvey    bool                    // whether functions are translated for the notes alone
 	bad         map[types.Object]bool   // variables whose declaration was not carried
 	records     map[string]bool         // types that are being read, so that a type that holds itself ends
 	needsCheck  bool                    // whether a pointer may be nil
+	tellsFaults bool                    // whether it is told that what is deferred is not run at each fault
 }
 
 // A table has the texts that stand behind numbers; the first is that of 0.
@@ -156,7 +158,7 @@ func (p *program) attemptMain(main *body) {
 			p.leave(main.decl.Name, "statements", "this program is not carried", "write it in a plainer form")
 		}
 	}()
-	p.instance(main, nil, nil)
+	p.instance(main, nil, nil, nil)
 }
 
 func (p *program) main() *body {
@@ -243,21 +245,23 @@ type instance struct {
 	results []Shape
 	globals []*types.Var // the variables of the package that it is given
 	pieces  []piece
+	unwind  *unwinding
 	again   bool // whether another instance of its body stands at the place of the source
 }
 
 // instance gives the instance of a function for arguments and held variables of these shapes, and translates it where it is new.
-func (p *program) instance(it *body, arguments, held []Shape) *instance {
+func (p *program) instance(it *body, arguments, held []Shape, unwind *unwinding) *instance {
 	key := itoa(it.number)
 	for _, shape := range append(append([]Shape{}, arguments...), held...) {
 		key += "|" + shape.key()
 	}
+	key += unwind.key()
 	if found := p.instances[key]; found != nil {
 		return found
 	}
 	p.nest(it)
 	defer func() { p.nesting-- }()
-	found := &instance{body: it, again: it.lit != nil, globals: it.globals}
+	found := &instance{body: it, again: it.lit != nil, globals: it.globals, unwind: unwind}
 	for _, shape := range append(append([]Shape{}, arguments...), held...) {
 		found.globals = globalsIn(shape, found.globals)
 	}
@@ -272,8 +276,9 @@ func (p *program) instance(it *body, arguments, held []Shape) *instance {
 	found.name = p.nameOf(found)
 	p.instances[key] = found
 	f := newFunction(p, found, arguments, held)
-	p.written = append(p.written, found)
+	p.written, p.active = append(p.written, found), append(p.active, found)
 	f.translate()
+	p.active = p.active[:len(p.active)-1]
 	p.done[it] = true
 	return found
 }

@@ -49,6 +49,9 @@ func saysText(kind string) bool { return kind == "text" || kind == "error" }
 // showAs keeps that variables of the carried program stand for texts, or what lies in their channels does.
 func (f *function) showAs(names []string, shape Shape) {
 	for at, leaf := range shape.leaves() {
+		if at < len(names) {
+			f.typed[names[at]] = leaf.Type
+		}
 		if kind := kindShown(leaf.Of); at < len(names) && saysText(kind) {
 			if f.shown[f.instance.name] == nil {
 				f.shown[f.instance.name] = map[string]string{}

@@ -9,6 +9,8 @@ import (
 
 // starts is `go f(..)`.
 func (f *function) starts(it *ast.GoStmt) {
+	f.isApart = true
+	defer func() { f.isApart = false }()
 	if f.startsOfUnion(it) {
 		return
 	}

@@ -76,7 +76,7 @@ func (p *program) askedOfInterfaces() map[string]bool {
 // surveyOne translates a function for the notes alone. Variables of which nothing is known here are passed over.
 func (p *program) surveyOne(it *body) {
 	p.done[it] = true
-	f := &function{program: p, instance: &instance{body: it, name: it.name, again: true}, names: map[string]bool{}, bound: map[types.Object]*binding{}, early: map[ast.Expr]Value{}}
+	f := blankFunction(p, &instance{body: it, name: it.name, again: true})
 	f.at = f.node().Pos()
 	if receiver := it.sign.Recv(); receiver != nil {
 		f.guess(receiver, false)

@@ -235,7 +235,7 @@ func (f *function) done(_ *ast.CallExpr, of []string) []Value {
 func (f *function) groupGo(it *ast.CallExpr, of []string) []Value {
 	f.emit(f.helper("wait_group_add") + "(" + commas(of) + ", 1)")
 	fun := f.function(it.Args[0])
-	to := f.prepare(it, fun, nil, nil)
+	to := f.prepareApart(it, fun)
 	f.emit("go " + f.wrapper(fun, to, WaitGroup) + "(" + commas(of, to.code) + ")")
 	return nil
 }
@@ -296,7 +296,7 @@ func (f *function) resetTimer(it *ast.CallExpr, of []string) []Value {
 func (f *function) errGo(it *ast.CallExpr, of []string) []Value {
 	f.emit(f.helper("wait_group_add") + "(" + commas(of[:2]) + ", 1)")
 	fun := f.function(it.Args[0])
-	to := f.prepare(it, fun, nil, nil)
+	to := f.prepareApart(it, fun)
 	f.emit("go " + f.wrapper(fun, to, Group) + "(" + commas(of, to.code) + ")")
 	return nil
 }

@@ -77,6 +77,11 @@ func isError(t types.Type) bool {
 	return t != nil && types.Identical(t, types.Universe.Lookup("error").Type())
 }
 
+func isString(t types.Type) bool {
+	basic, ok := under(t).(*types.Basic)
+	return ok && basic.Info()&types.IsString != 0
+}
+
 func (f *function) basic(it *types.Basic, node ast.Node) Shape {
 	switch {
 	case it.Info()&types.IsInteger != 0:
