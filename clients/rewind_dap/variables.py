@@ -14,6 +14,8 @@ Body = dict[str, Any]
 Member = TypeVar("Member")
 
 MAX_SHOWN = 1000
+# The types of Go for which numbers stand in a program that was carried over.
+TYPES = {"text": "string", "error": "error"}
 
 
 class Variables:
@@ -56,14 +58,14 @@ class Variables:
 
     # What a scope holds.
 
-    def of_frame(self, variables: Sequence[Variable]) -> list[Body]:
-        """The variables of a frame; one whose name is there before is told with a count."""
+    def of_frame(self, function: str, variables: Sequence[Variable]) -> list[Body]:
+        """The variables of a frame of a function; one whose name is there before is told with a count."""
         told: dict[str, int] = {}
         bodies = []
         for variable in variables:
             told[variable.name] = count = told.get(variable.name, 0) + 1
             name = variable.name if count == 1 else f"{variable.name} ({count})"
-            bodies.append(self.variable(name, variable.value))
+            bodies.append(self.variable(name, variable.value, self.session.program.kind_of(function, variable.name)))
         return bodies
 
     def of_goroutine(self, goroutine: Goroutine) -> list[Body]:
@@ -78,9 +80,10 @@ class Variables:
 
     # Values.
 
-    def variable(self, name: str, value: str) -> Body:
-        """A variable with its value; a channel can be opened."""
-        body: Body = {"name": name, "value": value, "type": type_of(value), "variablesReference": 0}
+    def variable(self, name: str, value: str, kind: str = "") -> Body:
+        """A variable with its value, which may stand for one of a kind; a channel can be opened."""
+        shown = self.session.program.value(kind, value)
+        body: Body = {"name": name, "value": shown, "type": type_of(value) if shown == value else TYPES[kind], "variablesReference": 0}
         channel = self.session.channel(value) if is_channel(value) else None
         return body if channel is None else {**body, **self.opened(channel)}
 
@@ -91,16 +94,17 @@ class Variables:
         return [
             {**plain("capacity", str(channel.capacity)), "type": "int"},
             plain("state", state_of(channel)),
-            self.items(channel.items),
-            self.branch("senders", channel.senders, self.waiter),
-            self.branch("receivers", channel.receivers, self.waiter),
+            self.items(channel),
+            self.branch("senders", channel.senders, lambda _, one: self.waiter(channel, one)),
+            self.branch("receivers", channel.receivers, lambda _, one: self.waiter(channel, one)),
         ]
 
-    def items(self, items: Sequence[str]) -> Body:
+    def items(self, channel: Channel) -> Body:
         """The items of a channel, of which an editor may ask for a part."""
-        body = self.branch("items", items, self.item)
+        items, kind = channel.items, self.session.kind_of_channel(channel.name)
+        body = self.branch("items", items, lambda place, value: self.variable(f"[{place}]", value, kind))
         if items:
-            self.indexed[body["variablesReference"]] = (len(items), lambda place: self.item(place, items[place]))
+            self.indexed[body["variablesReference"]] = (len(items), lambda place: self.variable(f"[{place}]", items[place], kind))
             body["indexedVariables"] = len(items)
         return body
 
@@ -116,14 +120,11 @@ class Variables:
         left_out = len(members) - MAX_SHOWN
         return bodies + [plain("..", f"{left_out} more")] if left_out > 0 else bodies
 
-    def item(self, place: int, value: str) -> Body:
-        return self.variable(f"[{place}]", value)
-
-    def waiter(self, _place: int, one: Waiter) -> Body:
-        """A goroutine that waits: at which case of a select, and with which value to send, or at which line."""
+    def waiter(self, channel: Channel, one: Waiter) -> Body:
+        """A goroutine that waits at a channel: at which case of a select, and with which value to send, or at which line."""
         at = f" (case {one.clause})" if one.clause else ""
         if one.value:
-            return self.variable(one.goroutine + at, one.value)
+            return self.variable(one.goroutine + at, one.value, self.session.kind_of_channel(channel.name))
         shown = self.session.goroutine(one.goroutine)
         return plain(one.goroutine + at, f"waits at line {shown.line}" if shown else "waits")
 

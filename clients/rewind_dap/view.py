@@ -8,7 +8,7 @@ from typing import Any, NamedTuple, Optional
 
 from rewind_client.core import Refused
 from rewind_client.errors import ProcessError
-from rewind_client.replies import Frame, Goroutine, State, Variable
+from rewind_client.replies import Frame, Goroutine, State
 from rewind_client.session import Session
 
 from .arguments import BadRequest
@@ -161,16 +161,12 @@ class View:
         place = self.place(number)
         return place.goroutine.frames[place.depth] if place.goroutine.frames else None
 
-    def variables_of(self, place: FramePlace) -> tuple[Variable, ...]:
-        frames = place.goroutine.frames
-        return frames[place.depth].variables if frames else ()
-
     # Scopes and variables.
 
     def scopes(self, number: int) -> list[Body]:
         place = self.place(number)
         values = self.values
-        variables = values.scope("Variables", False, lambda: values.of_frame(self.variables_of(place)), "locals")
+        variables = values.scope("Variables", False, lambda: self.of_place(place), "locals")
         self.owners[variables["variablesReference"]] = place.goroutine.name
         return [
             variables,
@@ -185,7 +181,11 @@ class View:
 
     def of_frame(self, number: int) -> list[Body]:
         """The variables of the frame of a number."""
-        return self.values.of_frame(self.variables_of(self.place(number)))
+        return self.of_place(self.place(number))
+
+    def of_place(self, place: FramePlace) -> list[Body]:
+        frames = place.goroutine.frames
+        return self.values.of_frame(frames[place.depth].function, frames[place.depth].variables) if frames else []
 
     # In words.
 

@@ -4,6 +4,7 @@ from __future__ import annotations
 import os
 import subprocess
 from collections.abc import Iterator
+from typing import Any
 
 import pytest
 
@@ -34,6 +35,26 @@ func main() {
 		b.Unlock()
 	}()
 	wg.Wait()
+}
+"""
+
+SAYS = """\
+package main
+
+import (
+	"errors"
+	"fmt"
+)
+
+func ask(name string, n int, err error, out chan string) {
+	out <- fmt.Sprintf("%s-%d", name, n)
+	out <- name
+	fmt.Println(err)
+}
+
+func main() {
+	out := make(chan string, 1)
+	ask("bob", -2, errors.New("none left"), out)
 }
 """
 
@@ -76,3 +97,22 @@ class TestCarried(Desk):
         assert self.frames() == [("wait_group_wait (added by rewind-carry)", 0), ("main", 23)]
         why = self.typed("why")
         assert "at line 12: b.Lock()" in why and "at line 19: a.Lock()" in why and "main, line 23: wg.Wait()" in why, why
+
+    def test_texts(self) -> None:
+        """A number that stands for a text is shown as its text, in a variable, in a channel and where one waits to send it."""
+        self.start(self.file("says.go", SAYS))
+        self.typed("step g0")
+        self.typed("run 5000")
+        frame = self.client.body("stackTrace", {"threadId": 1})["stackFrames"][0]["id"]
+        scopes = self.client.body("scopes", {"frameId": frame})["scopes"]
+        assert self.values(scopes[0])["name"] == ('"bob"', "string")
+        assert self.values(scopes[0])["err"] == ('"none left"', "error")
+        assert self.client.body("evaluate", {"expression": "name", "frameId": frame, "context": "watch"})["result"] == '"bob"'
+        out = next(it for it in self.client.body("variables", scopes[0])["variables"] if it["name"] == "out")
+        parts = {it["name"]: it for it in self.client.body("variables", out)["variables"]}
+        assert self.values(parts["items"]) == {"[0]": ('"bob--2"', "string")}
+        assert self.values(parts["senders"]) == {"g0": ('"bob"', "string")}
+
+    def values(self, of: Any) -> dict[str, tuple[str, str]]:
+        """The values and the types of a list of variables."""
+        return {it["name"]: (it["value"], it["type"]) for it in self.client.body("variables", of)["variables"]}
