@@ -339,11 +339,16 @@ func (f *function) finish(values []Value) {
 		return
 	}
 	if len(codes) > 1 {
-		first := f.spill(Value{Shape: Num{}, Code: codes[:1], Binds: atom}, "result")
+		t := f.resultLeaves()[0].Type
+		if codes[0] == "nil" {
+			codes[0] = f.typedZero(t)
+		}
+		first := f.typedName("result", t)
+		f.emit(first + " := " + codes[0])
 		for at, out := range f.outs {
 			f.emit(out[0] + " <- " + codes[at+1])
 		}
-		codes = first.Code
+		codes[0] = first
 	}
 	f.emit("return " + codes[0])
 }

@@ -106,17 +106,8 @@ func (f *function) fit(value Value, shape Shape, node ast.Node) Value {
 		return f.filled(value, grow, node)
 	}
 	if text, ok := shape.(Num); ok {
-		own, ok := value.Shape.(Num)
-		if ok && (text.Text == own.Text || own.Text == Plain) {
-			return value
-		}
-		if ok && text.Text == String && own.Text == Error {
-			return f.errorText(value)
-		}
-		if text.Text == Error {
-			if speaker := f.errorMethod(value.Shape); speaker != nil {
-				return f.spokenError(value, speaker, node)
-			}
+		if found, ok := f.fitNumber(value, text.Text, node); ok {
+			return found
 		}
 	}
 	if own, ok := isTool(value.Shape); ok {
@@ -131,6 +122,21 @@ func (f *function) fit(value Value, shape Shape, node ast.Node) Value {
 	return Value{}
 }
 
+// fitNumber makes a value a number, a text or an error, if it can be one.
+func (f *function) fitNumber(value Value, wanted Text, node ast.Node) (Value, bool) {
+	own, ok := value.Shape.(Num)
+	if ok && (wanted == own.Text || own.Text == Plain) {
+		return value, true
+	}
+	if ok && wanted == String && own.Text == Error {
+		return f.errorText(value), true
+	}
+	if speaker := f.errorMethod(value.Shape); wanted == Error && speaker != nil {
+		return f.spokenError(value, speaker, node), true
+	}
+	return Value{}, false
+}
+
 func (f *function) nothing(shape Shape, node ast.Node) Value {
 	switch it := shape.(type) {
 	case Num:
@@ -140,12 +146,7 @@ func (f *function) nothing(shape Shape, node ast.Node) Value {
 	case Chan, Handle, Map:
 		return f.nils(shape)
 	case Ref:
-		f.needsCheck = true
-		for _, isCell := range it.cells() {
-			if !isCell {
-				f.refuse(node, "pointers", "a pointer that may be nil to a value with fields that never change is not carried", "use a truth value beside it")
-			}
-		}
+		f.mayBeNil(it, node)
 		return f.nils(shape)
 	case List:
 		if it.Len == 0 {

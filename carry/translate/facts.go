@@ -38,6 +38,7 @@ type facts struct {
 	initial       map[types.Object]ast.Expr // of a variable that is never assigned to, what it is declared with
 	grown         map[types.Object]bool     // variables and fields to which something is appended
 	queued        map[types.Object]bool     // those of them from whose beginning elements are taken
+	nilTools      bool                      // whether a pointer to a struct with a tool in it may be nil
 	mayPanic      map[*body]bool            // functions that may come to a call of panic in their own goroutine
 	mayFault      map[*body]bool            // functions that may come to where Go itself panics
 }

@@ -236,16 +236,22 @@ func (f *function) store(where place, value Value, node ast.Node) {
 	f.storeAll([]place{where}, []Value{value}, node)
 }
 
+// A storing is what is put into places at once: into variables, and into cells.
+type storing struct {
+	to, from []string
+	cells    []stored
+}
+
+type stored struct{ into, code, t string }
+
 // storeAll puts values into places at once.
 func (f *function) storeAll(places []place, values []Value, node ast.Node) {
-	var to, from []string
-	type cell struct{ into, code, t string }
-	var cells []cell
+	var all storing
 	for n, where := range places {
 		if where.shape == nil { // the blank name
-			if values[n].Acts {
-				for _, code := range values[n].Code {
-					to, from = append(to, "_"), append(from, code)
+			for _, code := range values[n].Code {
+				if values[n].Acts {
+					all.to, all.from = append(all.to, "_"), append(all.from, code)
 				}
 			}
 			continue
@@ -255,28 +261,35 @@ func (f *function) storeAll(places []place, values []Value, node ast.Node) {
 			f.storeEntry(where, value, node, len(places) > 1)
 			return
 		}
-		for at, leaf := range where.shape.leaves() {
-			if where.cells[at] {
-				f.moves(where.shape)
-				cells = append(cells, cell{where.code[at], value.Code[at], leaf.Type})
-			} else {
-				if strings.Contains(where.code[at], "(") {
-					f.refuse(node, "arrays", "an element is assigned to that has no place", "")
-				}
-				to, from = append(to, where.code[at]), append(from, value.Code[at])
-			}
+		f.addTo(&all, where, value, node)
+	}
+	if len(all.cells)+len(all.to) > 1 {
+		for at := range all.cells {
+			name := f.typedName("value", all.cells[at].t)
+			f.emit(name + " := " + all.cells[at].code)
+			all.cells[at].code = name
 		}
 	}
-	if len(cells)+len(to) > 1 {
-		for at := range cells {
-			cells[at].code = f.spill(single(Num{}, cells[at].code, true), "value").one()
-		}
+	if len(all.to) > 0 {
+		f.emit(commas(all.to) + " = " + commas(all.from))
 	}
-	if len(to) > 0 {
-		f.emit(commas(to) + " = " + commas(from))
-	}
-	for _, it := range cells {
+	for _, it := range all.cells {
 		f.emit(f.storing(it.t) + "(" + it.into + ", " + it.code + ")")
+	}
+}
+
+// addTo adds the leaves of a value and of its place.
+func (f *function) addTo(all *storing, where place, value Value, node ast.Node) {
+	for at, leaf := range where.shape.leaves() {
+		switch {
+		case where.cells[at]:
+			f.moves(where.shape)
+			all.cells = append(all.cells, stored{where.code[at], value.Code[at], leaf.Type})
+		case strings.Contains(where.code[at], "("):
+			f.refuse(node, "arrays", "an element is assigned to that has no place", "")
+		default:
+			all.to, all.from = append(all.to, where.code[at]), append(all.from, value.Code[at])
+		}
 	}
 }
 

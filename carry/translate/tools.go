@@ -115,6 +115,9 @@ func (f *function) toolMethod(it *ast.CallExpr, selector *ast.SelectorExpr, choi
 	} else {
 		f.carry(it, rules[tool], told[tool])
 	}
+	if len(receiver.Code) > 0 {
+		f.checkTool(selector.X, receiver.Code[0])
+	}
 	do := methods[string(tool)+"."+name]
 	if do == nil {
 		f.refuse(it, rules[tool], name+" of this type is not carried", "")
