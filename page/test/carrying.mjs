@@ -25,7 +25,7 @@ func main() {
 	fmt.Println("count", count)
 }
 `;
-const LEFT = 'package main\n\nimport "fmt"\n\nvar seen = map[int]bool{}\n\nfunc main() {\n\tfmt.Println(len(seen), fmt.Sprint(1))\n}\n';
+const LEFT = 'package main\n\nimport "fmt"\n\nvar half = 0.5\n\nfunc main() {\n\tdefer recover()\n\tfmt.Println(half)\n}\n';
 
 /** @param {Hands} hands */
 async function carried(hands) {
@@ -127,9 +127,43 @@ async function left(hands) {
   await hands.click(".refusal-note .carry");
   await hands.until("document.querySelector('#carry-dialog').open");
   assert.equal(await hands.text("#carry-text"), "2 places of the source cannot be carried over:");
-  assert.ok((await hands.text("#carry-notes")).includes("Line 5: maps are not carried"));
+  assert.ok((await hands.text("#carry-notes")).includes("Line 5: the number 0.5 is not carried"));
   assert.ok(await hands.browser.run("document.querySelector('#carry-use').hidden"), "what is not carried over is not run");
   await hands.browser.run("document.querySelector('#carry-dialog').close()");
+}
+
+// A text that is handed on is a number in what is run.
+const SAYS = `package main
+
+import (
+	"errors"
+	"fmt"
+)
+
+func ask(name string, n int, err error, out chan string) {
+	out <- name
+	out <- fmt.Sprintf("%s-%d", name, n)
+	fmt.Println(err)
+}
+
+func main() {
+	out := make(chan string, 1)
+	ask("bob", -2, errors.New("none left"), out)
+}
+`;
+
+/** @param {Hands} hands */
+async function texts(hands) {
+  await hands.source(SAYS);
+  await hands.click(".refusal-note .carry");
+  await hands.until("document.querySelector('#carry-dialog').open");
+  await hands.click("#carry-use");
+  await hands.key("r");
+  const [variables, channels] = [await hands.text("#goroutines"), await hands.text("#channels")];
+  for (const shown of ['name = "bob"', "n = -2", 'err = "none left"', 'waits to send "bob--2" to out']) assert.ok(variables.includes(shown), `${shown} stands in ${variables}`);
+  for (const shown of ['"bob"', 'g0="bob--2"']) assert.ok(channels.includes(shown), `${shown} stands in ${channels}`);
+  const picture = await hands.browser.run("document.querySelector('#picture-frame').textContent");
+  assert.ok(picture.includes('→ "bob" to out'), `the picture has the text that is handed over: ${picture}`);
 }
 
 // Ordinary Go without packages is offered, too.
@@ -156,5 +190,5 @@ async function plain(hands) {
  */
 export async function realGo(t, browser, page) {
   if (!existsSync(page.replace(/[^/]*$/, "rewind-carry.js"))) return t.skip("'make carry-page' makes what carries Go over");
-  await inTurn(t, browser, { "carried and run": carried, "a deadlock": deadlock, "a breakpoint": breakpoint, "a reload": reload, "without packages": unpackaged, "what is left": left, "nothing to carry": plain });
+  await inTurn(t, browser, { "carried and run": carried, "a deadlock": deadlock, "a breakpoint": breakpoint, "a reload": reload, "texts for numbers": texts, "without packages": unpackaged, "what is left": left, "nothing to carry": plain });
 }

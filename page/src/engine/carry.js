@@ -9,7 +9,11 @@ export const FILE = "rewind-carry.js";
  * @property {string} source that was carried over
  * @property {string} text the carried program, where all of it is carried
  * @property {{line: number, column: number, kind: string, rule: string, what: string, advice?: string}[]} notes
- * @property {{line: number, source: number, column: number, function: string}[]} places from which line each line comes
+ * @property {{line: number, source: number, column: number, function: string, moves?: string}[]} places from which line each line comes
+ * @property {string[]} [texts] for which numbers stand
+ * @property {string[]} [errors] for which numbers stand
+ * @property {import("../session/texts.js").Form[]} [forms] of texts that are made
+ * @property {{[func: string]: {[variable: string]: string}}} [variables] what stands for a text or an error
  */
 
 /** @type {Promise<((name: string, text: string) => string) | null> | null} */

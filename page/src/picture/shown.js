@@ -10,7 +10,7 @@ export function shownOf(page) {
   const holders = holdersOf(goroutines);
   return {
     functions: page.annotating.functions(),
-    notes: page.note,
+    notes: (/** @type {string} */ id) => (session ? session.origin.readNote(page.note(id), session.scene) : page.note(id)),
     called: (/** @type {string} */ channel) => calledBy(holders, channel),
     does: (/** @type {string} */ kind) => words.kind(kind),
     // Only of the last step of a goroutine is it known by where the goroutine stands now.

@@ -75,10 +75,10 @@ function functionsOf(log, notes, known) {
  * @param {Map<string, Note>} notes
  * @param {{scene: Scene | null, holders: ReturnType<typeof holdersOf>}} end
  */
-function shownOf({ words, annotating }, log, notes, { scene, holders }) {
+function shownOf({ words, annotating, session }, log, notes, { scene, holders }) {
   const byName = new Map((scene?.goroutines || []).map((it) => [it.name, it]));
   return {
-    log, rows: new Rows(log), functions: functionsOf(log, notes, annotating.functions()), notes: (/** @type {string} */ id) => notes.get(id),
+    log, rows: new Rows(log), functions: functionsOf(log, notes, annotating.functions()), notes: (/** @type {string} */ id) => (session ? session.origin.readNote(notes.get(id), scene) : notes.get(id)),
     called: (/** @type {string} */ channel) => calledBy(holders, channel), does: (/** @type {string} */ kind) => words.kind(kind),
     standing: (/** @type {Step} */ { goroutine, number }) => {
       const one = byName.get(goroutine);

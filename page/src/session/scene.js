@@ -27,7 +27,9 @@ export async function readScene(remote, names, channels, statements) {
   const goroutines = shown.map((_, at) => placed(parseGoroutine(replies[at]), statements));
   const isPartial = names.length > shown.length;
   const isStuck = !isPartial && !goroutines.some(({ state }) => state === "ready");
-  return { goroutines, channels: made.map((name, at) => parseChannel(name, replies[shown.length + at])), console, hidden, isPartial, isStuck, clauses: new Map(), missing: "" };
+  const found = made.map((name, at) => parseChannel(name, replies[shown.length + at]));
+  const scene = { goroutines, channels: found, console, hidden, isPartial, isStuck, clauses: new Map(), missing: "" };
+  return statements.origin ? statements.origin.readable(scene) : scene;
 }
 
 // A goroutine with its place in the user's source.

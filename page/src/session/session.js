@@ -39,7 +39,7 @@ export class Session {
     this.carried = carried;
     this.text = carried ? carried.text : source; // that is run
     this.user = user;
-    this.origin = new Origin(source, carried && carried.places);
+    this.origin = new Origin(source, carried);
     this.statements = new Statements(this.text, this.origin);
     this.program = new Program(this.text, this.origin);
     this.log = new Log();

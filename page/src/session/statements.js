@@ -179,6 +179,7 @@ export class Statements {
    */
   constructor(source, origin = null) {
     const { statements, expanded } = new Reader(source).read();
+    this.origin = origin;
     if (origin?.isCarried) for (const it of statements) it.shown = origin.text(it.line);
     this.all = statements.filter(({ func }) => func);
     this.source = source;
