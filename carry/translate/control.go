@@ -339,12 +339,7 @@ func (f *function) finish(values []Value) {
 		return
 	}
 	if len(codes) > 1 {
-		t := f.resultLeaves()[0].Type
-		if codes[0] == "nil" {
-			codes[0] = f.typedZero(t)
-		}
-		first := f.typedName("result", t)
-		f.emit(first + " := " + codes[0])
+		first := f.held("result", f.resultLeaves()[0].Type, codes[0])
 		for at, out := range f.outs {
 			f.emit(out[0] + " <- " + codes[at+1])
 		}

@@ -320,20 +320,6 @@ var toolTexts = map[string]string{
 	"expire": `SELF(done chan struct{}, err chan int, reason int) {
 	<<cancel>>(done, err, reason)
 }`,
-	"group_wait": `SELF(count chan int, zero chan struct{}, first chan int, done chan struct{}, err chan int) int {
-	<<wait_group_wait>>(count, zero)
-	<<cancel>>(done, err, <<error:context canceled>>)
-	return <<load:int>>(first)
-}`,
-	"group_done": `SELF(count chan int, zero chan struct{}, first chan int, done chan struct{}, err chan int, failed int) {
-	before := <-first
-	if before == 0 && failed != 0 {
-		before = failed
-		<<cancel>>(done, err, <<error:context canceled>>)
-	}
-	first <- before
-	<<wait_group_add>>(count, zero, -1)
-}`,
 }
 
 // wrapper is a function that calls another one in a goroutine of a group, and says when it is done.
@@ -366,6 +352,9 @@ func (f *function) wrapper(fun Value, to callee, tool Tool) string {
 	}
 	if tool == Timer {
 		body = "\tselect {\n\tcase " + own[1] + " <- struct{}{}:\n\t\t" + call + "\n\tdefault:\n\t}\n"
+	}
+	if tool == Limited {
+		body = "\tfailed := " + call + "\n\t" + f.helper("leave_group") + "(" + commas(own) + ", failed)\n"
 	}
 	if tool == Group {
 		body = "\tfailed := " + call + "\n\t" + f.helper("group_done") + "(" + commas(own) + ", failed)\n"

@@ -281,8 +281,11 @@ func withTimeout(f *function, it *ast.CallExpr) []Value {
 func groupWithContext(f *function, it *ast.CallExpr) []Value {
 	f.carry(it, "errgroup", told[Group])
 	found := child(f, it)
-	group := Value{Shape: Group, Code: []string{f.cell("int") + "(0)", f.helper("token") + "()", f.cell("int") + "(0)"}, Binds: atom, Acts: true}
+	group := Value{Shape: f.withLimit(Group), Code: []string{f.cell("int") + "(0)", f.helper("token") + "()", f.cell("int") + "(0)"}, Binds: atom, Acts: true}
 	group.Code = append(group.Code, found[0].Code...)
+	if group.Shape == Limited {
+		group.Code = append(group.Code, f.noLimit())
+	}
 	return []Value{group, found[0]}
 }
 

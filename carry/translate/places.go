@@ -265,9 +265,7 @@ func (f *function) storeAll(places []place, values []Value, node ast.Node) {
 	}
 	if len(all.cells)+len(all.to) > 1 {
 		for at := range all.cells {
-			name := f.typedName("value", all.cells[at].t)
-			f.emit(name + " := " + all.cells[at].code)
-			all.cells[at].code = name
+			all.cells[at].code = f.held("value", all.cells[at].t, all.cells[at].code)
 		}
 	}
 	if len(all.to) > 0 {
@@ -361,6 +359,16 @@ func (f *function) spill(value Value, base string) Value {
 	f.showAs(names, value.Shape)
 	f.emit(commas(names) + " := " + commas(f.typedCodes(value)))
 	return Value{Shape: value.Shape, Code: names, Binds: atom}
+}
+
+// held keeps one leaf in a variable.
+func (f *function) held(base, t, code string) string {
+	if code == "nil" {
+		code = f.typedZero(t)
+	}
+	name := f.typedName(base, t)
+	f.emit(name + " := " + code)
+	return name
 }
 
 // typedCodes are the expressions of a value where a definition takes its types from them.

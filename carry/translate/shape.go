@@ -159,6 +159,7 @@ const (
 	Context   Tool = "context"
 	Cancel    Tool = "cancel"
 	Group     Tool = "errgroup"
+	Limited   Tool = "limited errgroup"
 	Counter   Tool = "atomic"
 	Flag      Tool = "atomic bool"
 )
@@ -174,6 +175,8 @@ var tools = map[Tool][]Leaf{
 	Cancel:    {{Suffix: "done", Type: "chan struct{}"}, {Suffix: "err", Type: "chan int"}},
 	Group: {{Suffix: "count", Type: "chan int"}, {Suffix: "zero", Type: "chan struct{}"}, {Suffix: "first", Type: "chan int"},
 		{Suffix: "done", Type: "chan struct{}"}, {Suffix: "err", Type: "chan int"}},
+	Limited: {{Suffix: "count", Type: "chan int"}, {Suffix: "zero", Type: "chan struct{}"}, {Suffix: "first", Type: "chan int"},
+		{Suffix: "done", Type: "chan struct{}"}, {Suffix: "err", Type: "chan int"}, {Suffix: "room", Type: "chan chan struct{}"}},
 	Counter: {{Type: "chan int"}},
 	Flag:    {{Type: "chan bool"}},
 }

@@ -48,8 +48,11 @@ func (f *function) newTool(tool Tool) Value {
 		found.Code = []string{f.cell("int") + "(0)"}
 	case Flag:
 		found.Code = []string{f.cell("bool") + "(false)"}
-	case Group:
+	case Group, Limited:
 		found.Code = []string{f.cell("int") + "(0)", f.helper("token") + "()", f.cell("int") + "(0)", "make(chan struct{})", f.cell("int") + "(0)"}
+		if tool == Limited {
+			found.Code = append(found.Code, f.noLimit())
+		}
 	default:
 		for _, leaf := range tool.leaves() {
 			found.Code = append(found.Code, f.typedZero(leaf.Type))
@@ -87,6 +90,7 @@ var told = map[Tool]string{
 	Counter:   "an atomic number lies in a cell, and each operation takes it once",
 	Flag:      "an atomic truth value lies in a cell, and each operation takes it once",
 	Group:     "an errgroup is a WaitGroup with the first error in a cell",
+	Limited:   "an errgroup is a WaitGroup with the first error in a cell, and a channel with room for as many as may go",
 	Context:   "a context is a channel that is closed when it ends, and its error in a cell",
 	Timer:     "there is no time: a goroutine stands for the timer, and may go at any moment",
 }
@@ -127,7 +131,7 @@ func (f *function) toolMethod(it *ast.CallExpr, selector *ast.SelectorExpr, choi
 
 var rules = map[Tool]string{
 	Mutex: "mutex", RWMutex: "rwmutex", WaitGroup: "waitgroup", Once: "once", Cond: "cond", Counter: "atomic", Flag: "atomic",
-	Group: "errgroup", Context: "context", Cancel: "context", Timer: "time",
+	Group: "errgroup", Limited: "errgroup", Context: "context", Cancel: "context", Timer: "time",
 }
 
 type toolCall = func(f *function, it *ast.CallExpr, of []string) []Value
@@ -137,35 +141,38 @@ var methods map[string]toolCall
 
 func init() {
 	methods = map[string]toolCall{
-		"mutex.Lock":            says("%0 <- struct{}{}"),
-		"mutex.Unlock":          (*function).unlock,
-		"mutex.TryLock":         (*function).tryLock,
-		"rwmutex.Lock":          says("%0 <- struct{}{}", "<-%2"),
-		"rwmutex.Unlock":        (*function).unlockWriter,
-		"rwmutex.RLock":         helps("read_lock"),
-		"rwmutex.RUnlock":       helps("read_unlock"),
-		"waitgroup.Add":         helps("wait_group_add"),
-		"waitgroup.Done":        (*function).done,
-		"waitgroup.Wait":        helps("wait_group_wait"),
-		"waitgroup.Go":          (*function).groupGo,
-		"once.Do":               (*function).onceDo,
-		"cond.Wait":             helps("cond_wait"),
-		"cond.Signal":           helps("cond_signal"),
-		"cond.Broadcast":        helps("cond_broadcast"),
-		"atomic.Add":            gives("atomic_add", Num{}),
-		"atomic.Load":           (*function).atomicLoad,
-		"atomic.Store":          (*function).atomicStore,
-		"atomic.Swap":           gives("atomic_swap", Num{}),
-		"atomic.CompareAndSwap": gives("compare_and_swap", Truth{}),
-		"atomic bool.Load":      (*function).flagLoad,
-		"atomic bool.Store":     (*function).flagStore,
-		"atomic bool.Swap":      gives("flag_swap", Truth{}),
-		"context.Done":          (*function).contextDone,
-		"context.Err":           (*function).contextErr,
-		"timer.Stop":            (*function).stopTimer,
-		"timer.Reset":           (*function).resetTimer,
-		"errgroup.Go":           (*function).errGo,
-		"errgroup.Wait":         gives("group_wait", Num{Error}),
+		"mutex.Lock":                says("%0 <- struct{}{}"),
+		"mutex.Unlock":              (*function).unlock,
+		"mutex.TryLock":             (*function).tryLock,
+		"rwmutex.Lock":              says("%0 <- struct{}{}", "<-%2"),
+		"rwmutex.Unlock":            (*function).unlockWriter,
+		"rwmutex.RLock":             helps("read_lock"),
+		"rwmutex.RUnlock":           helps("read_unlock"),
+		"waitgroup.Add":             helps("wait_group_add"),
+		"waitgroup.Done":            (*function).done,
+		"waitgroup.Wait":            helps("wait_group_wait"),
+		"waitgroup.Go":              (*function).groupGo,
+		"once.Do":                   (*function).onceDo,
+		"cond.Wait":                 helps("cond_wait"),
+		"cond.Signal":               helps("cond_signal"),
+		"cond.Broadcast":            helps("cond_broadcast"),
+		"atomic.Add":                gives("atomic_add", Num{}),
+		"atomic.Load":               (*function).atomicLoad,
+		"atomic.Store":              (*function).atomicStore,
+		"atomic.Swap":               gives("atomic_swap", Num{}),
+		"atomic.CompareAndSwap":     gives("compare_and_swap", Truth{}),
+		"atomic bool.Load":          (*function).flagLoad,
+		"atomic bool.Store":         (*function).flagStore,
+		"atomic bool.Swap":          gives("flag_swap", Truth{}),
+		"context.Done":              (*function).contextDone,
+		"context.Err":               (*function).contextErr,
+		"timer.Stop":                (*function).stopTimer,
+		"timer.Reset":               (*function).resetTimer,
+		"errgroup.Go":               (*function).errGo,
+		"errgroup.Wait":             (*function).errWait,
+		"limited errgroup.Go":       (*function).limitedGo,
+		"limited errgroup.Wait":     (*function).errWait,
+		"limited errgroup.SetLimit": (*function).setLimit,
 	}
 }
 
@@ -293,13 +300,4 @@ func (f *function) resetTimer(it *ast.CallExpr, of []string) []Value {
 		f.refuse(it, "time", "Reset is not carried in a program with time.AfterFunc", "make a new timer")
 	}
 	return []Value{single(Truth{}, f.helper("reset_timer")+"("+commas(of)+")", true)}
-}
-
-// errGo is g.Go(f): a goroutine that calls the function, keeps the first error, and is done.
-func (f *function) errGo(it *ast.CallExpr, of []string) []Value {
-	f.emit(f.helper("wait_group_add") + "(" + commas(of[:2]) + ", 1)")
-	fun := f.function(it.Args[0])
-	to := f.prepareApart(it, fun)
-	f.emit("go " + f.wrapper(fun, to, Group) + "(" + commas(of, to.code) + ")")
-	return nil
 }

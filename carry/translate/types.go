@@ -9,7 +9,7 @@ import (
 
 // shapeOf is the shape of a type.
 func (f *function) shapeOf(t types.Type, node ast.Node) Shape {
-	if tool := toolOf(t); tool != "" {
+	if tool := f.withLimit(toolOf(t)); tool != "" {
 		if _, ok := under(t).(*types.Struct); ok {
 			return tool
 		}
