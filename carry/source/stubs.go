@@ -16,7 +16,7 @@ var texts embed.FS
 var files = map[string]string{
 	"fmt": "fmt", "log": "log", "errors": "errors", "sync": "sync", "sync/atomic": "atomic", "time": "time", "context": "context",
 	"golang.org/x/sync/errgroup": "errgroup", "math/rand": "rand", "runtime": "runtime", "os": "os", "strings": "strings",
-	"strconv": "strconv",
+	"strconv": "strconv", "os/signal": "signal", "syscall": "syscall",
 }
 
 // stubs imports the known packages.

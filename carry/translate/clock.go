@@ -41,3 +41,21 @@ func (f *facts) isSeconds(e ast.Expr) bool {
 	selector, ok := call.Fun.(*ast.SelectorExpr)
 	return ok && selector.Sel.Name == "Seconds" && fullName(f.typeOf(selector.X)) == "time.Duration"
 }
+
+// moment is a method of a moment: a moment, the length of time between two, or which of two comes first.
+func (f *function) moment(it *ast.CallExpr, name string) Value {
+	values := f.all(it.Args)
+	switch name {
+	case "Sub":
+		f.change(it, "time", noClock)
+		return number(0)
+	case "Add":
+		f.change(it, "time", noClock)
+		return Value{Shape: Unit{}, Binds: atom}
+	case "Before", "After":
+		f.change(it, "time", "there is no clock: which of two moments comes first is a choice of whoever takes the step")
+		return Value{Shape: Truth{}, Code: []string{f.helper("choose:2") + "() == 1"}, Binds: precedence[token.EQL], Acts: true}
+	}
+	f.refuse(it, "time", name+" of a moment is not carried", "count steps in place of time")
+	return values[0]
+}

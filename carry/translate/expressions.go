@@ -51,6 +51,9 @@ func (f *function) value(e ast.Expr) Value {
 
 // constant is a constant as a literal of the language.
 func (f *function) constant(known types.TypeAndValue, node ast.Expr) Value {
+	if isSignal(known.Type) {
+		return f.signal(known, node)
+	}
 	switch known.Value.Kind() {
 	case constant.Bool:
 		return single(Truth{}, known.Value.String(), false)

@@ -14,6 +14,9 @@ func (f *function) packageVariable(object *types.Var, node ast.Node) place {
 		return f.known("context canceled")
 	case "context.DeadlineExceeded":
 		return f.known("context deadline exceeded")
+	case "os.Interrupt", "os.Kill":
+		text := map[string]string{"Interrupt": signals[2], "Kill": signals[9]}[object.Name()]
+		return place{shape: Num{String}, code: []string{itoa(f.texts.number(text))}, cells: []bool{false}}
 	}
 	f.refuse(node, "packages", object.Pkg().Name()+"."+object.Name()+" is not carried", "")
 	return place{}

@@ -19,12 +19,28 @@ type shown struct {
 // A linePrinter writes a function that prints a line with texts that are found by their numbers, and slices by their lengths.
 type linePrinter struct {
 	*program
-	text  strings.Builder
-	cases int
+	text    strings.Builder
+	cases   int
+	deepest int  // how deeply texts that are made may lie in others
+	isCut   bool // whether some could lie more deeply
 }
 
+// printText is the function that prints a line. Where texts in texts make too many cases, those that lie less deeply are printed alone.
 func (p *program) printText(it print) string {
-	w := linePrinter{program: p}
+	w := p.linePrinter(it, mostMade)
+	for deepest := mostMade - 1; deepest > 0 && w.cases > mostCases; deepest-- {
+		w = p.linePrinter(it, deepest)
+	}
+	if w.cases > mostCases {
+		p.leave(it.node, "texts", "a line with so many texts that it may be is not carried", "print its texts on lines of their own")
+	} else if w.isCut {
+		p.change(it.node, "texts", "a text that lies in "+itoa(w.deepest)+" others stops the program where it is printed")
+	}
+	return w.text.String()
+}
+
+func (p *program) linePrinter(it print, deepest int) *linePrinter {
+	w := &linePrinter{program: p, deepest: deepest}
 	var params []string
 	var parts []shown
 	for at, part := range it.items {
@@ -44,10 +60,7 @@ func (p *program) printText(it print) string {
 	fmt.Fprintf(&w.text, "func %s(%s) {\n", it.name, strings.Join(params, ", "))
 	w.line(parts, nil, "\t")
 	w.text.WriteString("}")
-	if w.cases > mostCases {
-		p.leave(it.node, "texts", "a line with so many texts that it may be is not carried", "print its texts on lines of their own")
-	}
-	return w.text.String()
+	return w
 }
 
 // line writes the cases of a line from its first part on of which they are not chosen.
@@ -119,7 +132,7 @@ func (w *linePrinter) texts(part shown, rest []shown, done []string, indent stri
 		if it.kind != kind || w.cases > mostCases {
 			continue
 		}
-		if part.depth == mostMade {
+		if part.depth == w.deepest {
 			isCut = true
 			continue
 		}
@@ -127,6 +140,7 @@ func (w *linePrinter) texts(part shown, rest []shown, done []string, indent stri
 		w.line(append(w.partsOf(it, part, indent+"\t"), rest...), done, indent+"\t")
 	}
 	if isCut {
+		w.isCut = w.isCut || w.deepest < mostMade
 		fmt.Fprintf(&w.text, "%s} else {\n%s\t%s()\n", indent, indent, w.fault("text_is_too_long"))
 	}
 	fmt.Fprintf(&w.text, "%s}\n", indent)

@@ -106,10 +106,8 @@ func (f *function) toolMethod(it *ast.CallExpr, selector *ast.SelectorExpr, choi
 	}
 	tool, ok := isTool(receiver.Shape)
 	name := choice.Obj().Name()
-	if fullName(f.typeOf(selector.X)) == "time.Time" && (name == "Sub" || name == "Add") {
-		f.change(it, "time", noClock)
-		f.all(it.Args)
-		return []Value{map[string]Value{"Sub": number(0), "Add": {Shape: Unit{}, Binds: atom}}[name]}
+	if fullName(f.typeOf(selector.X)) == "time.Time" {
+		return []Value{f.moment(it, name)}
 	}
 	if !ok {
 		f.refuse(it, "packages", name+" is not carried", "")

@@ -21,6 +21,9 @@ func (f *function) shapeOf(t types.Type, node ast.Node) Shape {
 	if isError(t) {
 		return Num{Error}
 	}
+	if isSignal(t) {
+		return Num{String}
+	}
 	return f.shapeOfForm(t, node)
 }
 
