@@ -284,6 +284,7 @@ def test_long_source(tmp_path: Path) -> None:
     assert carried(path, tmp_path / "out.go", "--quiet").returncode == 0
 
 
+@pytest.mark.timeout(1200)
 @pytest.mark.parametrize("number", short_first(range(6), range(500)))
 def test_a_random_program(number: int, rewind: str, tmp_path: Path, pytestconfig: pytest.Config, told: Callable[[str], None]) -> None:
     """What Go comes to, some schedule of the carried program does, too."""

@@ -50,10 +50,10 @@ def carried(path: Path, to: Path, *options: str) -> subprocess.CompletedProcess[
 
 
 class Coarse(Scheduler):
-    """Takes every second schedule in bursts of very different lengths: in a run of Go few goroutines are interrupted."""
+    """Takes schedules in bursts of very different lengths, and by ranks: in a run of Go few goroutines are interrupted."""
 
     def manner_of(self, number: int) -> Manner:
-        return Manner.BURSTS if number % 2 else super().manner_of(number)
+        return (super().manner_of(number), Manner.BURSTS, Manner.RANKS)[number % 3]
 
     def burst(self, names: Sequence[str]) -> Iterable[str]:
         name = self.random.choice(names)
