@@ -67,6 +67,9 @@ func (f *function) shapeOfForm(t types.Type, node ast.Node) Shape {
 
 // refuseType refuses a type that is not carried.
 func (f *function) refuseType(t types.Type, node ast.Node) {
+	if _, ok := t.(*types.TypeParam); ok {
+		f.refuse(node, "generics", "a type parameter is not carried", "write it for the type that it is used with")
+	}
 	switch under(t).(type) {
 	case *types.Interface:
 		f.refuse(node, "interfaces", "interfaces are not carried, but for error", "use the type that stands behind it")
