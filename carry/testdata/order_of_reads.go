@@ -36,6 +36,8 @@ func main() {
 	signs <- total + spend(1)
 	total = total*2 + <-signs
 	fmt.Println(total, total > 30 && spend(1) > 0, total)
+	go func(a, b int) { signs <- a*100 + b }(total, spend(1))
+	fmt.Println(<-signs)
 	if total != spend(1) || total < 0 {
 		fmt.Println("differs", total)
 	}

@@ -209,6 +209,9 @@ func (f *function) zero(shape Shape) Value {
 // all translates expressions in the order of Go. An obstacle in one does not keep those in the others from being noted. What acts
 // before another one needs statements of its own is kept in variables.
 func (f *function) all(list []ast.Expr) []Value {
+	if f.isApart {
+		return f.inOrderOfText(list) // as Go keeps the arguments of a `go`
+	}
 	defer f.callsFirst(list)()
 	return f.inOrderOfText(list)
 }
