@@ -8,6 +8,7 @@ use Rattle.std.proofs.lemmas.List.{take_all, take-append-le, drop_all}
 use Rattle.std.proofs.lemmas.Result.{on_ok_weaker, on_err_weaker, IfOk-from_err}
 use Rattle.gr_base.specs.declared.memory.NoMemory.{NoMemory}
 use Rattle.gr_command.specs.Room.{Grows, IsFull, Puts}
+use Rattle.gr_command.proofs.Errors.{on_err}
 
 grows_same : (a b : Vec ℕ Global) → b.items ≡ a.items → vec_capacity a ≤ vec_capacity b → Grows a b
 grows_same a b e c = record { more = []; items = e ∙ sym (append-nil a.items); capacity = c }
@@ -24,10 +25,6 @@ grows_then a b c h k = record {
 
 pub cut_back : (a b : Vec ℕ Global) → Grows a b → take (length a.items) b.items ≡ a.items
 cut_back a b h = rw h.items (take-append-le (length a.items) a.items h.more (omega arith) ∙ take_all (length a.items) a.items (omega arith))
-
-on_err : {T E P : Type 0} (r : Result T E) → P → OnErr r P
-on_err (Ok v) p = tt
-on_err (Err e) p = p
 
 pub puts_all : {T E : Type 0} {v : T} {a b : Vec ℕ Global} {xs : List ℕ} → b.items ≡ a.items ++ xs → vec_capacity a ≤ vec_capacity b
     → Puts {T = T} {E = E} (Ok v) a b xs

@@ -1,3 +1,4 @@
+pub mod Errors
 pub mod Cuts
 pub mod Growing
 pub mod Views

@@ -32,11 +32,6 @@ later_named words rest word is h = ap (list_any is_named) is ∙ or_true (is_nam
 pub is_read : {A : Type 0} (o found : Option A) (a : A) → found ≡ o → found ≡ Some a → IsSome o
 is_read o found a named is = subst IsSome (sym is ∙ named) refl
 
--- what holds anyway holds of an error
-pub on_err : {T E A : Type 0} (r : Result T E) → A → OnErr r A
-on_err (Ok t) a = tt
-on_err (Err e) a = a
-
 -- the steps that words name, one word further
 pub steps_further : (total : Option (List StepId)) (words rest : List (List ℕ)) (word : List ℕ) (ids new : List StepId) (id : StepId)
     (named : Option StepId) → words ≡ word ∷ rest → named ≡ step_named word → named ≡ Some id → new ≡ ids ++ id ∷ []

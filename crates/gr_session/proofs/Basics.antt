@@ -1,6 +1,5 @@
 -- Facts of options and truth values.
-use Rattle.std.proofs.Common.{◌≡◌, Bool, true, false, ◌||◌, Some, None, Ok, Err, refl, ap}
-use Rattle.std.specs.Prelude.{Result, OnErr}
+use Rattle.std.proofs.Common.{◌≡◌, Bool, true, false, ◌||◌, Some, None, refl, ap}
 
 pub some_inj : {A : Type 0} {x y : A} → Some x ≡ Some y → x ≡ y
 some_inj {A} {x} h = ap (λ o. elim o [ Some z ↦ z | None ↦ x ]) h
@@ -12,8 +11,3 @@ or_left false b e = cc
 pub or_right : (a b : Bool) → b ≡ true → (a || b) ≡ true
 or_right true b e = refl
 or_right false b e = e
-
--- what holds anyway holds of an error
-pub on_err : {T E A : Type 0} (r : Result T E) → A → OnErr r A
-on_err (Ok t) a = tt
-on_err (Err e) a = a

@@ -17,7 +17,7 @@ use Rattle.gr_session.specs.declared.journal.Memory.{Memory}
 use Rattle.gr_session.specs.Journal.{World, first_world, IsAsked, Leads}
 use Rattle.gr_session.specs.Journal as leads
 use Rattle.gr_session.specs.Entries.{Means, by_command, by_batch, Lead, no_entry, one_more}
-use Rattle.gr_session.specs.Claim.{IsStepAsked, last_goes, none_is_kept, undo_finds_no_memory, all_go, some_go, none_is_asked, ComesTo, MeetsTheClaim}
+use Rattle.gr_session.specs.Claim.{IsStepAsked, last_goes, none_is_kept, undo_finds_no_memory, all_go, some_go, none_is_asked, IsAsClaimed, MeetsTheClaim}
 use Rattle.gr_session.proofs.OneMeaningJournals.{all_of_runs}
 
 -- a list is empty, or has a last element
@@ -45,7 +45,7 @@ module _ (p : Program) where
 
   -- what a command comes to
   comes_by : (w u : World p) (command : Command) (memory : Memory) (a : Said) → IsRun p w.log w.state → Leads p w command memory u a
-      → ComesTo p (asks.Command command) w u a
+      → IsAsClaimed p (asks.Command command) w u a
   comes_by w u command memory a run (leads.steps r joins) = tt
   comes_by w u command memory a run (leads.is_no_step reason refused told) = tt
   comes_by w u command memory a run (leads.has_no_room allowed full) = tt
@@ -89,7 +89,7 @@ module _ (p : Program) where
   comes_by w u command memory a run leads.tells_console = tt
   comes_by w u command memory a run leads.tells_log = tt
 
-  comes : (w u : World p) (asked : Asked) (memory : Memory) (a : Said) → IsRun p w.log w.state → Means p w asked memory u a → ComesTo p asked w u a
+  comes : (w u : World p) (asked : Asked) (memory : Memory) (a : Said) → IsRun p w.log w.state → Means p w asked memory u a → IsAsClaimed p asked w u a
   comes w u _ memory a run (by_command {command} leads) = comes_by w u command memory a run leads
   comes w u _ _ a run (by_batch commits) = tt
 

@@ -18,7 +18,7 @@ use Rattle.gr_rollback.specs.Leasing.{Contains, contains, IsLentAt, SomeGoesAlon
 use Rattle.gr_session.specs.declared.debuggee.Debuggee.{Debuggee}
 use Rattle.gr_session.specs.Journal.{World, past_of}
 use Rattle.gr_session.specs.Debuggees.{store_in, Stands}
-use Rattle.gr_session.specs.Granting.{MayStep, IsTurnDue, CanLend, IsLent, Lends}
+use Rattle.gr_session.specs.Granting.{MayStep, IsTurnDue, CanLend, IsLent, LeaseEnds}
 use Rattle.gr_session.proofs.Basics.{or_right}
 use Rattle.gr_session.proofs.OneMeaningTurns.{turn_is_ready}
 
@@ -166,7 +166,7 @@ module _ (p : Program) (w : World p) (d : Debuggee) (s : Stands p w d) where
   pub lent_result : (place : ℕ) (may : Bool) (r : Result (Option LentCopy) NoMemory) → (IsTrue may ↔ MayStep p w) → may ≡ true
       → IfOk r (λ o. IfSome o (λ l. IsLease l × IsAsLent l (store_in d))) → IfOk r (λ o. IfSome o (λ l. (loan_of l).steps ≡ 0))
       → IfOk r (λ o. IsLentAt w.state place (option_map (λ l. (loan_of l).name) o))
-      → OnErr r ((go : List ℕ) × IsLentAt w.state place (Some go)) → Lends p w place r
+      → OnErr r ((go : List ℕ) × IsLentAt w.state place (Some go)) → LeaseEnds p w place r
   lent_result place may (Ok o) steps is lease fresh which wants = lent_where place may o steps is lease fresh which
   lent_result place may (Err e) steps is lease fresh which wants =
       record { may_step = steps.0 is; some_alone = lent_alone w.state place wants.0 wants.1 }

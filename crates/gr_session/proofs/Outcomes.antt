@@ -6,13 +6,13 @@ use Rattle.gr_rollback.specs.StepLeasing.{IsAsLent, loan_kept, loan_of}
 use Rattle.gr_session.specs.declared.committing.Outcome.{Outcome}
 use Rattle.gr_session.specs.declared.debuggee.Debuggee.{Debuggee}
 use Rattle.gr_session.specs.declared.journal.Memory.TheVariants.{Enough}
-use Rattle.gr_session.specs.Carried.{ComesTo}
+use Rattle.gr_session.specs.Carried.{BatchComesTo}
 use Rattle.gr_session.specs.Debuggees.{store_in}
 use Rattle.gr_session.proofs.CommitLemmas.{stale_where_changed, is_stale, no_join_when_changed}
 use Rattle.gr_session.proofs.GrantLemmas.{never}
 
 pub comes_to_stale : (d : Debuggee) (l : LentCopy) (o : Outcome) → (IsAsLent l (store_in d) → ⊥) → loan_kept o.batch ≡ loan_of l
-    → o.stood ≡ false → o.memory ≡ Enough → said_of o.reply ≡ Stale → ComesTo d l o d
+    → o.stood ≡ false → o.memory ≡ Enough → said_of o.reply ≡ Stale → BatchComesTo d l o d
 comes_to_stale d l o other kept stood memory reply = record {
   kept = kept;
   commits = λ p w s. rw (stood, memory, reply) (stale_where_changed p w d s (loan_of l) other);

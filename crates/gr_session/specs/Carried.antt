@@ -56,7 +56,7 @@ JoinsWhereItMay d l reply = (p : Program) (w : World p) → Stands p w d → May
     → CanTake (log_in d) (records_led l) → reply ≡ Committed (loan_of l).steps
 
 -- a batch comes to this outcome, with which the program then stands so
-pub record ComesTo (old : Debuggee) (l : LentCopy) (outcome : Outcome) (new : Debuggee) : Type 0 where
+pub record BatchComesTo (old : Debuggee) (l : LentCopy) (outcome : Outcome) (new : Debuggee) : Type 0 where
   pub kept : loan_kept outcome.batch ≡ loan_of l
   pub commits : (p : Program) (w : World p) → Stands p w old
       → CommitsTo p w (loan_of l) outcome.stood outcome.memory (said_of outcome.reply) new

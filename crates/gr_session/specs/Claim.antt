@@ -44,10 +44,10 @@ pub data BackComesTo (p : Program) (target : Target) (w u : World p) : Said → 
   none_is_asked : ((x : Logged p) → ¬ IsStepAsked p w.log target x) → u ≡ w → BackComesTo p target w u (No NotKept)
 
 -- what is claimed of what was asked; of others than `undo` and `back` nothing
-abbrev pub ComesTo : (p : Program) → Asked → World p → World p → Said → Type 0
-ComesTo p (asks.Command commands.Undo) w u reply = UndoComesTo p w u reply
-ComesTo p (asks.Command (commands.Back target)) w u reply = BackComesTo p target w u reply
-ComesTo p asked w u reply = Unit {0}
+abbrev pub IsAsClaimed : (p : Program) → Asked → World p → World p → Said → Type 0
+IsAsClaimed p (asks.Command commands.Undo) w u reply = UndoComesTo p w u reply
+IsAsClaimed p (asks.Command (commands.Back target)) w u reply = BackComesTo p target w u reply
+IsAsClaimed p asked w u reply = Unit {0}
 
 -- The entry behind these entries of a journal: from their world it leads to the next one, with a reply, and this is as is claimed.
 pub record MeetsTheClaim (p : Program) (before : List Entry) (e : Entry) : Type 0 where
@@ -56,4 +56,4 @@ pub record MeetsTheClaim (p : Program) (before : List Entry) (e : Entry) : Type 
   pub reply : Said
   pub stood : Lead p (first_world p) before old
   pub meant : Means p old e.asked e.memory new reply
-  pub comes : ComesTo p e.asked old new reply
+  pub comes : IsAsClaimed p e.asked old new reply

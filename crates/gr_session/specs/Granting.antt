@@ -46,6 +46,6 @@ IsLent p w place (Some l) = IsLoan p w place l
 IsLent p w place None = ¬ CanLend p w
 
 -- a goroutine is lent where one can be, and memory is wanted only there
-abbrev pub Lends : (p : Program) → World p → ℕ → Result (Option LentCopy) NoMemory → Type 0
-Lends p w place (Ok o) = IsLent p w place o
-Lends p w place (Err error) = CanLend p w
+abbrev pub LeaseEnds : (p : Program) → World p → ℕ → Result (Option LentCopy) NoMemory → Type 0
+LeaseEnds p w place (Ok o) = IsLent p w place o
+LeaseEnds p w place (Err error) = CanLend p w

@@ -7,7 +7,7 @@ ghost use Rattle.gr_rollback.specs.Stores.{SameListing, contents_at, program_at}
 ghost use Rattle.gr_rollback.specs.StepLeasing.{IsLease, IsAsLent, loan_kept, loan_of, program_lent};
 ghost use Rattle.gr_session.specs.Journal.{World};
 ghost use Rattle.gr_session.specs.Debuggees.{Stands, IsDebuggee, store_in};
-ghost use Rattle.gr_session.specs.Carried.{CommitsTo, JoinsWhereItMay, ComesTo};
+ghost use Rattle.gr_session.specs.Carried.{CommitsTo, JoinsWhereItMay, BatchComesTo};
 ghost use Rattle.gr_session.specs.Committing.{contents_after};
 
 use crate::debuggee::Debuggee;
@@ -100,7 +100,7 @@ pub(crate) fn commit(
     requires debuggee { IsDebuggee debuggee.old }
     requires lease { IsLease lease }
     requires own { (origin ≡ Origin.Own) → (program_lent lease ≡ program_at (store_in debuggee.old)) }
-    ensures { ComesTo debuggee.old lease result debuggee.new }
+    ensures { BatchComesTo debuggee.old lease result debuggee.new }
 {
     if origin == Origin::Unknown && !debuggee.machine.has_program_of(&lease) {
         return changed(lease);
@@ -113,7 +113,7 @@ fn commit_own(alloc: Global, debuggee: &mut Debuggee, lease: LentCopy) -> Outcom
     requires debuggee { IsDebuggee debuggee.old }
     requires lease { IsLease lease }
     requires own { program_lent lease ≡ program_at (store_in debuggee.old) }
-    ensures { ComesTo debuggee.old lease result debuggee.new }
+    ensures { BatchComesTo debuggee.old lease result debuggee.new }
 {
     let mut lease = lease;
     if !debuggee.machine.has_as_lent(&lease) {

@@ -14,7 +14,7 @@ use gr_schedules::law_of_events;
 
 /// The command that is written for a step of a run asks for just that step, where the step is taken: of its goroutine, with the
 /// clause that it picks, if it picks one.
-pub fn law_of_commands()
+pub fn law_of_written_steps()
     ensures { (p : Program) (s t : State) (e : Event) → IsChecked p → Reached p s → next_state p s e ≡ Some t
         → event_asked p s e.go (clause_in e.choice) ≡ e }
 {

@@ -1,4 +1,5 @@
-use Rattle.gr_command.proofs.Naming.{first_named, later_named, is_read, on_err, steps_further}
+use Rattle.gr_command.proofs.Errors.{on_err}
+use Rattle.gr_command.proofs.Naming.{first_named, later_named, is_read, steps_further}
 use Rattle.gr_command.proofs.arguments.read_steps.Goals as goal
 
 pub returns-in_err-id-clause-needed : goal.returns-in_err-id-clause-needed

@@ -1,4 +1,4 @@
-use Rattle.gr_command.proofs.Naming.{on_err}
+use Rattle.gr_command.proofs.Errors.{on_err}
 use Rattle.gr_command.specs.Requests.{request_meant}
 use Rattle.gr_program.specs.Views.{program_of}
 use Rattle.gr_protocol.proofs.Replying.{nothing_left}

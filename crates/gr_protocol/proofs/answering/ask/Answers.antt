@@ -1,6 +1,6 @@
 use Rattle.std.proofs.Common.{Err, inr}
 use Rattle.std.proofs.lemmas.Result.{IfOk-weaker}
-use Rattle.gr_command.proofs.Naming.{on_err}
+use Rattle.gr_command.proofs.Errors.{on_err}
 use Rattle.gr_command.specs.Replies.{said_of}
 use Rattle.gr_serve.specs.Replies.{Replied, answer_of}
 use Rattle.gr_serve.proofs.Answers.{entered}

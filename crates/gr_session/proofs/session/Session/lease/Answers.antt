@@ -1,4 +1,4 @@
-use Rattle.gr_session.proofs.Basics.{on_err}
+use Rattle.gr_command.proofs.Errors.{on_err}
 use Rattle.gr_session.proofs.session.Session.lease.Goals as goal
 
 pub invariant_of-result : goal.invariant_of-result
