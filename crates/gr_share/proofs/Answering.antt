@@ -1,6 +1,6 @@
 -- What stands under the lock after an entry more.
-use Rattle.std.proofs.Common.{◌≡◌, ℕ, ◌+◌, List, [], ◌∷◌, ◌++◌, length, refl, ap, sym, subst, arith}
-use Rattle.std.specs.Prelude.{IsErrOf, OnErr, Result, Ok, Err}
+use Rattle.std.proofs.Common.{◌≡◌, ℕ, List, [], ◌∷◌, ◌++◌, length, refl, ap, sym, subst, arith}
+use Rattle.std.specs.Prelude.{IsErrOf, Err}
 use mathlib.Core.List.{IsPrefix}
 use Rattle.gr_program.specs.Programs.{Program}
 use Rattle.gr_program.specs.Views.{program_of}
@@ -27,11 +27,6 @@ begins_on before s a call journal begins entered =
 -- the lines are as many as the entries of a full journal
 pub full_on : (s : Seen) (log : List Line) → Tells (program_of s.program) s.journal log → length s.journal ≡ JOURNAL_LIMIT → IsFull log
 full_on s log tells full = let long = tells.as_long in omega (arith, long, full)
-
--- what holds anyway holds of an error
-pub on_err : {T E A : Type 0} (r : Result T E) → A → OnErr r A
-on_err (Ok t) a = tt
-on_err (Err e) a = a
 
 -- a refusal for this reason
 pub refused_with : {A : Type 0} {why other : AskRefused} → why ≡ other → IsErrOf {T = A} (Err why) other

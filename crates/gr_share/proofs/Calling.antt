@@ -4,16 +4,13 @@ use Rattle.std.proofs.lemmas.List.Elements.{All-push}
 use Rattle.std.specs.Prelude.{◌↔◌, IsTrue}
 use Rattle.gr_program.specs.Programs.{Program}
 use Rattle.gr_command.specs.Replies.{Said}
-use Rattle.gr_session.specs.Copies.{most_at}
 use Rattle.gr_session.specs.declared.journal.AskRefused.{AskRefused}
-use Rattle.gr_session.specs.declared.journal.AskRefused.TheVariants.{JournalFull, NoMemory}
 use Rattle.gr_session.specs.declared.journal.Receipt.{Receipt}
 use Rattle.gr_share.specs.declared.desk.Asked.{Asked as Wanted}
-use Rattle.gr_share.specs.declared.desk.Asked.TheVariants.{Batch}
 use Rattle.gr_share.specs.declared.desk.Call.{Call}
 use Rattle.gr_share.specs.Calls.{Asker, Gains, after_refusal}
 use Rattle.gr_share.specs.Works.{IsWork, IsAtWork, IsCut, IsCutTo, HasWorked}
-use Rattle.gr_share.specs.Finding.{WorksOnce, CommitsUpTo, has_rested, has_called}
+use Rattle.gr_share.specs.Finding.{WorksOnce, has_rested, has_called}
 
 cons_is : {A : Type 0} (a b : A) (xs ys : List A) → a ∷ xs ≡ b ∷ ys → (a ≡ b) × (xs ≡ ys)
 cons_is a b xs ys e = (cc, cc)
@@ -36,8 +33,7 @@ gains old number before after full now wanted kept r was is same still rises =
 
 -- an asker that was refused has no call more
 pub rested : (p : Program) (place : ℕ) (on : Bool) (why : AskRefused) (old new : Asker) → new ≡ after_refusal why old → WorksOnce p place on old new
-rested p place on JournalFull old new is = has_rested (ap (λ (a : Asker). a.number) is) (ap (λ (a : Asker). a.calls) is)
-rested p place on NoMemory old new is = has_rested (ap (λ (a : Asker). a.number) is) (ap (λ (a : Asker). a.calls) is)
+rested p place on why old new is = has_rested (ap (λ (a : Asker). a.number) is) (ap (λ (a : Asker). a.calls) is)
 
 -- an asker that has a call more
 pub called : (p : Program) (place : ℕ) (on : Bool) (old new : Asker) (wanted : Wanted) (gained : Gains old wanted new) → IsWork p place wanted
@@ -51,27 +47,6 @@ pub not_cut : (on cut : Bool) (count steps : ℕ) (reply other : Said) → on �
 not_cut on cut count steps reply other is tells many same goes h =
     let yes : cut ≡ true = tells.1 (subst (λ (z : ℕ × Said). IsCutTo z.0 z.1) (λ k. (sym many k, sym same k)) h) in
     true≢false (sym goes ∙ is ∙ ap not yes)
-
-last_is : (xs : List Call) (a b : Call) → xs ++ a ∷ [] ≡ xs ++ b ∷ [] → a ≡ b
-last_is [] a b e = (cons_is a b [] [] e).0
-last_is (x ∷ xs) a b e = last_is xs a b (cons_is x x (xs ++ a ∷ []) (xs ++ b ∷ []) e).1
-
-steps_are : (go other : List ℕ) (n m : ℕ) → Batch go n ≡ Batch other m → n ≡ m
-steps_are go other n m e = cc
-
--- a batch that the asker has more is the one that it gained, and one that was refused has none
-pub few_gained : (limit : ℕ) (old new : Asker) (go : List ℕ) (n : ℕ) → Gains old (Batch go n) new → n ≤ most_at limit → CommitsUpTo limit old new
-few_gained limit old new go n gained few c other steps calls asked =
-    let one : Call = record { asked = Batch go n; receipt = gained.0 } in
-    let same : c ≡ one = last_is old.calls c one (sym calls ∙ ap (λ (a : Asker). a.calls) gained.1.0) in
-    let is = steps_are other go steps n (sym asked ∙ ap (λ (x : Call). x.asked) same) in
-    omega (arith, is, few)
-
-pub few_rested : (limit : ℕ) (p : Program) (place : ℕ) (on : Bool) (why : AskRefused) (old new : Asker) → new ≡ after_refusal why old → CommitsUpTo limit old new
-few_rested limit p place on JournalFull old new is c other steps calls asked =
-    absurd (let n = ap length (sym (ap (λ (a : Asker). a.calls) is) ∙ calls) in omega (arith, n, length-append old.calls (c ∷ [])))
-few_rested limit p place on NoMemory old new is c other steps calls asked =
-    absurd (let n = ap length (sym (ap (λ (a : Asker). a.calls) is) ∙ calls) in omega (arith, n, length-append old.calls (c ∷ [])))
 
 -- what a worker has done so far, where it may go on: none of its calls was cut
 pub record GoesOn (old new : Asker) : Type 0 where

@@ -1,5 +1,5 @@
 -- What holds where a journal leads: there is one world of it.
-use Rattle.std.proofs.Common.{◌≡◌, ◌↔◌, ℕ, ◌+◌, ◌-◌, ◌≤◌, min, Bool, true, false, not, true≢false, List, length, refl, sym, ◌∙◌, subst, arith}
+use Rattle.std.proofs.Common.{◌≡◌, ◌↔◌, ℕ, ◌+◌, ◌-◌, min, Bool, true, false, not, true≢false, List, length, refl, sym, ◌∙◌, subst, arith}
 use Rattle.std.specs.Prelude.{IsTrue}
 use Rattle.gr_program.specs.Programs.{Program}
 use Rattle.gr_program.specs.Views.{program_of}
@@ -10,7 +10,7 @@ use Rattle.gr_session.specs.Entries.{InItsWorld, Lead}
 use Rattle.gr_session.specs.Granting.{IsLoan, CanLend, IsTurnDue}
 use Rattle.gr_session.specs.Journal.{World, first_world}
 use Rattle.gr_share.specs.Seats.{Held}
-use Rattle.gr_share.specs.Works.{Lends, most_lent}
+use Rattle.gr_share.specs.Works.{Lends}
 
 abbrev OneWorld : Program → List Entry → Type 0
 OneWorld p journal = (u v : World p) → Lead p (first_world p) journal u → Lead p (first_world p) journal v → u ≡ v

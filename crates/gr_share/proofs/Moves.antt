@@ -11,7 +11,7 @@ use Rattle.atomic_table.proofs.Lists.{at_set, set_again}
 use Rattle.gr_share.specs.Lines.{Line}
 use Rattle.gr_share.specs.declared.desk.Call.{Call}
 use Rattle.gr_share.specs.declared.views.View.{View}
-use Rattle.gr_share.specs.Ties.{asked, front, settled, AskedUpTo, keeping, asking, nobody, claim, sight, hearing, with_asker, newest, Fits, IsFull, Kept, told, Compared, longer, called, Entered, Taken, Settled, Noted}
+use Rattle.gr_share.specs.Ties.{asked, front, settled, AskedUpTo, keeping, asking, nobody, claim, sight, sight_taken, hearing, with_asker, newest, Fits, IsFull, Kept, told, Compared, longer, called, Entered, Rested, Taken, Settled, Noted}
 use Rattle.gr_share.proofs.Lines.{at_snoc, prefix_self, prefix_trans, prefix_length, asked-own, asked-other, asked_prefix, front-push, settled_prefix, settled-push, settled-named, up_to-more, up_to-push, settled_none, whole}
 
 off : false ≡ true → ⊥
@@ -42,6 +42,7 @@ nobody_fits word seat home log askers by = record {
   noted = omega arith;
   claims = (asked 0 log, refl);
   seen = (log, refl);
+  taken = (settled word log, refl);
   full = λ b. absurd (off b);
   noted_full = λ b. absurd (off b);
 }
@@ -55,17 +56,19 @@ asker_fits word seat home log askers by a cs told_full at le is full = record {
   noted = omega arith;
   claims = (asked 0 log, refl);
   seen = (log, refl);
+  taken = (settled word log, refl);
   full = full;
   noted_full = λ b. absurd (off b);
 }
 
-keeper_fits : (word : ℕ) (home : ℕ → ℕ) (log : List Line) (askers by : ℕ) → Fits word by home log askers by (keeping log askers)
-keeper_fits word home log askers by = record {
-  keeper = λ _. (refl, refl, refl);
+keeper_fits : (home : ℕ → ℕ) (log : List Line) (askers by : ℕ) → Fits 0 by home log askers by (keeping log askers)
+keeper_fits home log askers by = record {
+  keeper = λ _. (refl, refl, refl, λ _. refl);
   asker = λ h. absurd (omega arith);
   noted = omega arith;
   claims = (asked 0 log, refl);
   seen = (log, refl);
+  taken = (log, refl);
   full = λ b. absurd (off b);
   noted_full = λ b. absurd (off b);
 }
@@ -83,7 +86,7 @@ begins log askers known = record {
 }
   where
     one : (by : ℕ) (v : View) → get_elem? (keeping log askers ∷ []) by ≡ some v → Fits 0 0 (λ _. 0) log askers by v
-    one zero v e = subst (Fits 0 0 (λ _. 0) log askers 0) (some-injective _ _ e) (keeper_fits 0 (λ _. 0) log askers 0)
+    one zero v e = subst (Fits 0 0 (λ _. 0) log askers 0) (some-injective _ _ e) (keeper_fits (λ _. 0) log askers 0)
     one (suc by) v e = absurd (some-ne-none v (sym e))
 
 -- the state after a step, from what holds of its views
@@ -107,8 +110,8 @@ unmoved s id carried v k at =
     (λ j u e. k.fits j u (subst (λ l. get_elem? l j ≡ some u) (set_again s.views id v at) e))
 
 -- a note that the session's seat took in is compared
-pub compares : (slots id : ℕ) (me : Me Call View) → me.0.keeps ≡ true → Allows Kept slots id me 0 (λ n. n) (λ r m. Compared me.0 m.0)
-compares slots id me keeper s k size at small =
+pub compares : (slots id : ℕ) (me : Me Call View) → me.0.keeps ≡ true → me.0.rests ≡ true → Allows Kept slots id me 0 (λ n. n) (λ r m. Compared me.0 m.0)
+compares slots id me keeper rests s k size at small =
     let mine = k.fits id me.0 at in
     let it = mine.keeper keeper in
     let w = keeping me.0.log me.0.askers in (
@@ -118,11 +121,12 @@ compares slots id me keeper s k size at small =
       placed s (get_or s.words 0 0) id me.1 w k.seat k.home k.log k.askers k.wide k.known
           (on_set (Fits (get_or s.words 0 0) k.seat k.home k.log k.askers) s.views id w (λ j u _ e. k.fits j u e)
           (record {
-            keeper = λ _. it;
+            keeper = λ _. (it.0, it.1, it.2, λ _. it.3 rests);
             asker = λ h. absurd (omega arith);
             noted = omega arith;
             claims = (asked 0 k.log, refl);
             seen = (k.log, refl);
+            taken = (settled (get_or s.words 0 0) k.log, refl);
             full = λ b. absurd (off b);
             noted_full = λ b. absurd (off b);
           })),
@@ -147,6 +151,7 @@ grown word seat home log askers by v e named apart f = record {
   noted = f.noted;
   claims = prefix_trans v.claims (asked v.noted log) (asked v.noted (log ++ e ∷ [])) f.claims (asked_prefix v.noted log (log ++ e ∷ []) (e ∷ [], refl));
   seen = prefix_trans v.seen log (log ++ e ∷ []) f.seen (e ∷ [], refl);
+  taken = subst (λ (l : List Line). IsPrefix v.taken l) (sym (settled-push word log e named)) f.taken;
   full = λ b. still_full log (e ∷ []) (f.full b);
   noted_full = λ b. still_full log (e ∷ []) (f.noted_full b);
 }
@@ -171,11 +176,12 @@ enters slots id me a call keeper named few s k size at small =
           (λ j u apart there. grown a k.seat k.home k.log k.askers j u e named (λ same. apart (same ∙ sym it.0))
           (subst (λ (z : ℕ). Fits z k.seat k.home k.log k.askers j u) hit (k.fits j u there)))
           (record {
-            keeper = λ _. (it.0, ap (λ l. l ++ e ∷ []) it.1, it.2);
+            keeper = λ _. (it.0, ap (λ l. l ++ e ∷ []) it.1, it.2, λ b. absurd (off b));
             asker = λ h. absurd (omega arith);
             noted = omega arith;
             claims = (asked 0 (k.log ++ e ∷ []), refl);
             seen = (k.log ++ e ∷ [], refl);
+            taken = (settled a (k.log ++ e ∷ []), refl);
             full = λ b. absurd (off b);
             noted_full = λ b. absurd (off b);
           }))),
@@ -189,11 +195,38 @@ enters slots id me a call keeper named few s k size at small =
       ((λ hit. absurd (miss hit)), (λ _. refl)),
     ))
 
+-- the session's seat looks whether the word is 0
+pub rests : (slots id : ℕ) (me : Me Call View) → me.0.keeps ≡ true → Allows Kept slots id me 0 (λ n. n) (λ r m. Rested me.0 r m.0)
+rests slots id me keeper s k size at small =
+    let x : ℕ = get_or s.words 0 0 in
+    let it = (k.fits id me.0 at).keeper keeper in
+    let w = keeping me.0.log me.0.askers in
+    dite (ℕ_discrete x 0)
+    (λ (none_out : x ≡ 0). (
+      w,
+      keeps,
+      tt,
+      placed s x id me.1 w k.seat k.home k.log k.askers k.wide k.known
+          (on_set (Fits x k.seat k.home k.log k.askers) s.views id w (λ j u _ e. k.fits j u e)
+          (record {
+            keeper = λ _. (it.0, it.1, it.2, λ _. none_out);
+            asker = λ h. absurd (omega arith);
+            noted = omega arith;
+            claims = (asked 0 k.log, refl);
+            seen = (k.log, refl);
+            taken = (settled x k.log, refl);
+            full = λ b. absurd (off b);
+            noted_full = λ b. absurd (off b);
+          })),
+      ((λ _. refl), (λ other. absurd (other none_out))),
+    ))
+    (λ out. (me.0, keeps, tt, unmoved s id me.1 me.0 k at, ((λ none_out. absurd (out none_out)), (λ _. refl))))
+
 -- another asker's seat, after an asker took its call
 left_out : (a seat : ℕ) (home : ℕ → ℕ) (log es : List Line) (askers by id : ℕ) (v : View) (e : Line) → 0 < a → e.asker ≡ a → id ≡ home a → log ≡ es ++ e ∷ [] → by ≢ id
     → Fits a seat home log askers by v → Fits 0 seat home log askers by v
 left_out a seat home log es askers by id v e named own mine is apart f = record {
-  keeper = f.keeper;
+  keeper = λ k. let t = f.keeper k in (t.0, t.1, t.2, λ _. refl);
   asker = λ h.
       let t = f.asker h in
       let other : e.asker ≢ v.asker = λ same. apart (t.0 ∙ (ap home (sym same ∙ own) ∙ sym mine)) in
@@ -202,6 +235,7 @@ left_out a seat home log es askers by id v e named own mine is apart f = record 
   noted = f.noted;
   claims = f.claims;
   seen = f.seen;
+  taken = prefix_trans v.taken (settled a log) log f.taken (settled_prefix a log);
   full = f.full;
   noted_full = f.noted_full;
 }
@@ -244,8 +278,8 @@ takes slots id me a es call name named shown few s k size at small =
       ((λ hit. absurd (miss hit)), (λ _. refl)),
     ))
 
--- an asker's seat that was shown the journal compares its calls
-pub settles : (slots id : ℕ) (me : Me Call View) → 0 < me.0.asker → Allows Kept slots id me 0 (λ n. n) (λ r m. Settled me.0 r m.0)
+-- an asker's seat compares its calls with a journal, whose lines are all among the calls of their askers
+pub settles : (slots id : ℕ) (me : Me Call View) → 0 < me.0.asker → Allows Kept slots id me 0 (λ n. n) (λ r m. Settled me.0 m.0)
 settles slots id me named s k size at small =
     let x : ℕ = get_or s.words 0 0 in
     let mine = k.fits id me.0 at in
@@ -259,9 +293,7 @@ settles slots id me named s k size at small =
           (asker_fits x k.seat k.home k.log k.askers id me.0.asker me.0.calls me.0.told_full it.0 it.1 it.2 mine.full)),
       (
         refl,
-        (λ (none_out : x ≡ 0). subst (IsPrefix (asked me.0.asker me.0.seen))
-            (ap (λ (z : ℕ). asked me.0.asker (settled z k.log)) (sym none_out) ∙ sym it.2)
-            (asked_prefix me.0.asker me.0.seen k.log mine.seen)),
+        subst (IsPrefix (asked me.0.asker me.0.taken)) (sym it.2) (asked_prefix me.0.asker me.0.taken (settled x k.log) mine.taken),
       ),
     )
 
@@ -301,6 +333,7 @@ claims id v named s k at =
             noted = it.1;
             claims = subst (λ (l : List Line). IsPrefix l (asked v.asker k.log)) (sym it.2) (asked_prefix v.asker (settled x k.log) k.log (settled_prefix x k.log));
             seen = (k.log, refl);
+            taken = (settled x k.log, refl);
             full = λ b. absurd (off b);
             noted_full = (k.fits id v at).full;
           });
@@ -325,6 +358,33 @@ shows id v keeper s k at =
             noted = omega arith;
             claims = (asked 0 k.log, refl);
             seen = subst (λ (l : List Line). IsPrefix l k.log) (sym it.1) (prefix_self k.log);
+            taken = (settled x k.log, refl);
+            full = λ b. absurd (off b);
+            noted_full = λ b. absurd (off b);
+          });
+    }
+
+-- a note of the journal, whose lines are all among the calls of their askers
+pub shows_taken : (id : ℕ) (v : View) → v.keeps ≡ true → v.rests ≡ true → Splits Kept id v v (sight_taken v.log)
+shows_taken id v keeper rests s k at =
+    let x : ℕ = get_or s.words 0 0 in
+    let it = (k.fits id v at).keeper keeper in
+    let whole : k.log ≡ settled x k.log = ap (λ (z : ℕ). settled z k.log) (sym (it.3 rests)) in record {
+      wide = k.wide;
+      seat = k.seat;
+      home = k.home;
+      log = k.log;
+      askers = k.askers;
+      known = k.known;
+      fits = on_snoc (Fits x k.seat k.home k.log k.askers) (set s.views id v) (sight_taken v.log)
+          (λ j u e. k.fits j u (subst (λ l. get_elem? l j ≡ some u) (set_again s.views id v at) e))
+          (record {
+            keeper = λ b. absurd (off b);
+            asker = λ h. absurd (omega arith);
+            noted = omega arith;
+            claims = (asked 0 k.log, refl);
+            seen = (k.log, refl);
+            taken = subst (λ (l : List Line). IsPrefix l (settled x k.log)) (sym (it.1 ∙ whole)) (prefix_self (settled x k.log));
             full = λ b. absurd (off b);
             noted_full = λ b. absurd (off b);
           });
@@ -355,6 +415,7 @@ hears id v other w s k at apart there =
             noted = theirs.noted;
             claims = theirs.claims;
             seen = theirs.seen;
+            taken = theirs.taken;
             full = mine.full;
             noted_full = theirs.noted_full;
           }) j u e)
@@ -385,13 +446,14 @@ older word seat home log askers by place v apart f = record {
   noted = (let n = f.noted in omega arith);
   claims = f.claims;
   seen = f.seen;
+  taken = f.taken;
   full = f.full;
   noted_full = f.noted_full;
 }
 
 -- a further asker
-pub opens : (id : ℕ) (v : View) → v.keeps ≡ true → Splits Kept id v (with_asker v) (newest v)
-opens id v keeper s k at =
+pub opens : (id : ℕ) (v : View) → v.keeps ≡ true → v.rests ≡ true → Splits Kept id v (with_asker v) (newest v)
+opens id v keeper rests s k at =
     let x : ℕ = get_or s.words 0 0 in
     let it = (k.fits id v at).keeper keeper in
     let place = length (set s.views id (with_asker v)) in
@@ -408,11 +470,12 @@ opens id v keeper s k at =
           (on_set (Fits x k.seat home k.log (k.askers + 1)) s.views id (with_asker v)
           (λ j u apart e. older x k.seat k.home k.log k.askers j place u (λ same. apart (same ∙ sym it.0)) (k.fits j u e))
           (record {
-            keeper = λ _. (it.0, it.1, more);
+            keeper = λ _. (it.0, it.1, more, λ _. it.3 rests);
             asker = λ h. absurd (omega arith);
             noted = omega arith;
             claims = (asked 0 k.log, refl);
             seen = (k.log, refl);
+            taken = (settled x k.log, refl);
             full = λ b. absurd (off b);
             noted_full = λ b. absurd (off b);
           }))

@@ -14,7 +14,7 @@ use Rattle.gr_session.specs.declared.journal.Entry.{Entry}
 use Rattle.gr_session.specs.declared.journal.Receipt.{Receipt}
 use Rattle.gr_session.specs.Entries.{EntersCommand, EntersBatch}
 use Rattle.gr_session.specs.Keeps.{Seen}
-use Rattle.gr_session.specs.Copies.{Loan, loan_of}
+use Rattle.gr_session.specs.Copies.{Loan}
 use Rattle.gr_share.specs.declared.desk.Asked.{Asked as Wanted}
 use Rattle.gr_share.specs.declared.desk.Asked.TheVariants.{Command, Batch}
 use Rattle.gr_share.specs.declared.desk.Call.{Call}
@@ -74,10 +74,14 @@ GainsBy old wanted r new = (new ≡ with_call old wanted r) × All (λ c. c.rece
 abbrev pub Gains : Asker → Wanted → Asker → Type 0
 Gains old wanted new = (r : Receipt) × GainsBy old wanted r new
 
--- the asker after it was refused: it was told whether the journal is full
+-- whether an asker was told that the journal is full, after a refusal
+abbrev pub is_told : AskRefused → Bool → Bool
+is_told JournalFull before = true
+is_told NoMemory before = before
+
+-- the asker after it was refused
 abbrev pub after_refusal : AskRefused → Asker → Asker
-after_refusal JournalFull a = record a { told_full = true }
-after_refusal NoMemory a = a
+after_refusal why a = record a { told_full = is_told why a.told_full }
 
 -- the asker has one call more, and its receipt is shown; or it was refused
 abbrev pub Asked : Asker → Wanted → Result (Bor Receipt) AskRefused → Asker → Type 0

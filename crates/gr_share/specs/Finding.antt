@@ -1,23 +1,22 @@
 -- What a worker finds to do, and does: a stepping stone of the proofs, of which no public clause speaks.
-use Rattle.std.specs.Prelude.{◌≡◌, ℕ, ◌≤◌, ◌⊎◌, Bool, true, List, [], ◌∷◌, ◌++◌, length}
+use Rattle.std.specs.Prelude.{◌≡◌, ℕ, ◌⊎◌, Bool, true, List, [], ◌∷◌, ◌++◌, length}
 use Rattle.gr_program.specs.Programs.{Program}
 use Rattle.gr_command.specs.declared.command.Command.TheVariants.{Turn}
 use Rattle.gr_session.specs.declared.TheConstants.{JOURNAL_LIMIT}
 use Rattle.gr_session.specs.declared.journal.AskRefused.TheVariants.{JournalFull, NoMemory}
 use Rattle.gr_session.specs.declared.journal.Entry.{Entry}
-use Rattle.gr_session.specs.Copies.{loan_of, most_at}
+use Rattle.gr_session.specs.Copies.{loan_of}
 use Rattle.gr_session.specs.Entries.{InItsWorld}
 use Rattle.gr_session.specs.Granting.{CanLend}
 use Rattle.gr_session.specs.Growing.{Grows}
-use Rattle.gr_share.specs.declared.desk.Asked.TheVariants.{Command, Batch}
+use Rattle.gr_share.specs.declared.desk.Asked.TheVariants.{Command}
 use Rattle.gr_share.specs.declared.desk.Call.{Call}
 use Rattle.gr_share.specs.declared.desk.Work.{Work}
 use Rattle.gr_share.specs.declared.desk.Work.TheVariants as works
 use Rattle.gr_share.specs.declared.locked.Found.{Found}
 use Rattle.gr_share.specs.declared.locked.Found.TheVariants as found
 use Rattle.gr_share.specs.declared.views.View.{View}
-use Rattle.gr_share.specs.Calls.{Asker, Gains, after_refusal}
-use Rattle.gr_share.specs.Ties as ties
+use Rattle.gr_share.specs.Calls.{Asker, Gains, after_refusal, is_told}
 use Rattle.gr_share.specs.Ties.{asking, told, numbers_of, AllBelow}
 use Rattle.gr_share.specs.Works.{Lends, IsWork, IsCut}
 
@@ -29,7 +28,7 @@ Finds p journal place number old (found.Turned call) new =
 Finds p journal place number old (found.Lends lease limit) new =
     (new ≡ old) × ((loan_of lease.copy).program ≡ p) × Lends p journal place lease limit
 Finds p journal place number old found.Closed new = new ≡ old
-Finds p journal place number old (found.Refused why) new = new ≡ ties.after_refusal why old
+Finds p journal place number old (found.Refused why) new = new ≡ asking number old.calls (is_told why old.told_full)
 
 abbrev pub IsClosed : Found → Type 0
 IsClosed (found.Turned call) = ⊥
@@ -65,8 +64,3 @@ pub data WorksOnce (p : Program) (place : ℕ) (goes_on : Bool) (old new : Asker
   has_rested : new.number ≡ old.number → new.calls ≡ old.calls → WorksOnce p place goes_on old new
   has_called : (c : Call) → new.number ≡ old.number → new.calls ≡ old.calls ++ c ∷ [] → IsWork p place c.asked
       → (goes_on ≡ true → ¬ IsCut c) → WorksOnce p place goes_on old new
-
--- a batch that the asker has more is of at most as many steps as the limit allows
-abbrev pub CommitsUpTo : (limit : ℕ) → Asker → Asker → Type 0
-CommitsUpTo limit old new = (c : Call) (go : List ℕ) (steps : ℕ)
-    → new.calls ≡ old.calls ++ c ∷ [] → c.asked ≡ Batch go steps → steps ≤ most_at limit

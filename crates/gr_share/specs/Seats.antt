@@ -30,3 +30,11 @@ IsWorker number workers = (k : ℕ) × (k < length workers) × ((w : Staff) → 
 -- the askers after the first and up to the last are here
 abbrev pub AreAll : ℕ → ℕ → List Asker → List Staff → Type 0
 AreAll first last desks workers = (number : ℕ) → first < number → number ≤ last → IsDesk number desks ⊎ IsWorker number workers
+
+-- an asker after the first and up to the last is not here
+pub record LacksSeat (first last : ℕ) (desks : List Asker) (workers : List Staff) : Type 0 where
+  pub number : ℕ
+  pub after : first < number
+  pub upto : number ≤ last
+  pub no_desk : ¬ IsDesk number desks
+  pub no_worker : ¬ IsWorker number workers

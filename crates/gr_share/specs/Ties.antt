@@ -7,8 +7,6 @@ use Rattle.atomic_table.specs.Seated.{TableId}
 use Rattle.atomic_table.specs.Table.{State}
 use Rattle.gr_program.specs.Programs.{Program, ProgramIs}
 use Rattle.gr_session.specs.declared.TheConstants.{JOURNAL_LIMIT}
-use Rattle.gr_session.specs.declared.journal.AskRefused.{AskRefused}
-use Rattle.gr_session.specs.declared.journal.AskRefused.TheVariants.{JournalFull, NoMemory}
 use Rattle.gr_session.specs.declared.journal.Entry.{Entry}
 use Rattle.gr_share.specs.declared.views.View.{View}
 use Rattle.gr_share.specs.declared.desk.Call.{Call}
@@ -49,12 +47,13 @@ abbrev pub AskedUpTo : ℕ → List Line → Type 0
 AskedUpTo askers [] = Unit {0}
 AskedUpTo askers (x ∷ xs) = (x.asker ≤ askers) × AskedUpTo askers xs
 
--- the session's seat
+-- the session's seat, while the word is 0
 abbrev pub keeping : List Line → ℕ → View
 keeping log askers = record {
   keeps = true;
   log = log;
   askers = askers;
+  rests = true;
   asker = 0;
   calls = [];
   told_full = false;
@@ -62,7 +61,12 @@ keeping log askers = record {
   claims = [];
   noted_full = false;
   seen = [];
+  taken = [];
 }
+
+-- the session's seat after an entry
+abbrev pub entering : List Line → ℕ → View
+entering log askers = record (keeping log askers) { rests = false }
 
 -- an asker's seat, with its calls, and whether it was told that the journal is full
 abbrev pub asking : ℕ → List Line → Bool → View
@@ -70,6 +74,7 @@ asking asker calls told_full = record {
   keeps = false;
   log = [];
   askers = 0;
+  rests = false;
   asker = asker;
   calls = calls;
   told_full = told_full;
@@ -77,6 +82,7 @@ asking asker calls told_full = record {
   claims = [];
   noted_full = false;
   seen = [];
+  taken = [];
 }
 
 abbrev pub nobody : View
@@ -88,9 +94,12 @@ claim asker calls told_full = record nobody { noted = asker; claims = calls; not
 abbrev pub sight : List Line → View
 sight log = record nobody { seen = log }
 
+abbrev pub sight_taken : List Line → View
+sight_taken log = record nobody { taken = log }
+
 -- a seat that took in a note
 abbrev pub hearing : View → View → View
-hearing v w = record v { noted = w.noted; claims = w.claims; noted_full = w.noted_full; seen = w.seen }
+hearing v w = record v { noted = w.noted; claims = w.claims; noted_full = w.noted_full; seen = w.seen; taken = w.taken }
 
 -- the session's seat after a further asker
 abbrev pub with_asker : View → View
@@ -103,14 +112,15 @@ newest v = asking (v.askers + 1) [] false
 abbrev pub IsFull : List Line → Type 0
 IsFull log = JOURNAL_LIMIT ≤ length log
 
--- What holds of one view. There is one seat of the session, and one of each asker. Notes are beginnings of what they tell. Who was
--- told that the journal is full was told the truth.
+-- What holds of one view. There is one seat of the session, and one of each asker. The word is 0 while the session's seat rests.
+-- Notes are beginnings of what they tell. Who was told that the journal is full was told the truth.
 pub record Fits (word seat : ℕ) (home : ℕ → ℕ) (log : List Line) (askers by : ℕ) (v : View) : Type 0 where
-  pub keeper : v.keeps ≡ true → (by ≡ seat) × (v.log ≡ log) × (v.askers ≡ askers)
+  pub keeper : v.keeps ≡ true → (by ≡ seat) × (v.log ≡ log) × (v.askers ≡ askers) × (v.rests ≡ true → word ≡ 0)
   pub asker : 0 < v.asker → (by ≡ home v.asker) × (v.asker ≤ askers) × (v.calls ≡ asked v.asker (settled word log))
   pub noted : v.noted ≤ askers
   pub claims : IsPrefix v.claims (asked v.noted log)
   pub seen : IsPrefix v.seen log
+  pub taken : IsPrefix v.taken (settled word log)
   pub full : v.told_full ≡ true → IsFull log
   pub noted_full : v.noted_full ≡ true → IsFull log
 
@@ -138,7 +148,7 @@ told asker call = record { asker = asker; number = call.receipt.number; call = S
 
 abbrev pub longer : View → ℕ → Option Call → View
 longer v asker none = v
-longer v asker (some call) = keeping (v.log ++ told asker call ∷ []) v.askers
+longer v asker (some call) = entering (v.log ++ told asker call ∷ []) v.askers
 
 abbrev pub called : View → ℕ → Option Call → View
 called v asker none = v
@@ -148,22 +158,21 @@ called v asker (some call) = asking v.asker (v.calls ++ told asker call ∷ []) 
 abbrev pub Entered : ℕ → ℕ → Option Call → View → ℕ → View → Type 0
 Entered expected asker said v found w = (found ≡ expected → w ≡ longer v asker said) × (found ≢ expected → w ≡ v)
 
+-- the session's seat rests, if the word is 0; else nothing changed
+abbrev pub Rested : View → ℕ → View → Type 0
+Rested v found w = (found ≡ 0 → w ≡ keeping v.log v.askers) × (found ≢ 0 → w ≡ v)
+
 -- the asker has one call more, if the word named it; else nothing changed
 abbrev pub Taken : ℕ → Option Call → View → ℕ → View → Type 0
 Taken asker said v found w = (found ≡ asker → w ≡ called v asker said) × (found ≢ asker → w ≡ v)
 
--- where the word is 0, the asker's lines of a journal that was shown are a beginning of its calls
-abbrev pub Settled : View → ℕ → View → Type 0
-Settled v found w = (w ≡ asking v.asker v.calls v.told_full) × (found ≡ 0 → IsPrefix (asked v.asker v.seen) v.calls)
+-- the asker's lines, where all lines are among the calls of their askers, are a beginning of its calls
+abbrev pub Settled : View → View → Type 0
+Settled v w = (w ≡ asking v.asker v.calls v.told_full) × IsPrefix (asked v.asker v.taken) v.calls
 
 -- the asker notes that the journal is full
 abbrev pub Noted : View → View → Type 0
 Noted v w = w ≡ asking v.asker v.calls true
-
--- an asker's seat after it was refused
-abbrev pub after_refusal : AskRefused → View → View
-after_refusal JournalFull v = asking v.asker v.calls true
-after_refusal NoMemory v = v
 
 abbrev pub calls_of : ℕ → List Call → List Line
 calls_of asker calls = map (told asker) calls

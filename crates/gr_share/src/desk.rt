@@ -233,6 +233,13 @@ impl<B: Room> Model for Worker<B> {
 impl<B: Room> Worker<B> {
     ghost use Rattle.std.specs.Prelude.{◌≡◌};
 
+    /// Its number among the askers.
+    pub fn number(&self) -> u32
+        ensures { result ≡ self.now.seat.number }
+    {
+        self.seat.number()
+    }
+
     /// Its place among the workers, from 1.
     pub fn place(&self) -> u32
         ensures { result ≡ self.now.place }

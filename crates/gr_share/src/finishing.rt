@@ -1,9 +1,9 @@
 //! The end of a shared session.
-ghost use Rattle.std.specs.Prelude.{◌≡◌, ℕ, ◌<◌, ◌≤◌, ◌⊎◌, All, IfOk, IfErr, IsTrue, length};
+ghost use Rattle.std.specs.Prelude.{◌≡◌, ℕ, ◌<◌, ◌≤◌, ◌⊎◌, All, IfOk, IfErr, OnErr, IsTrue, IsFalse, length};
 ghost use mathlib.Core.List.{IsPrefix};
 ghost use Rattle.gr_program.specs.Views.{program_of};
 ghost use Rattle.gr_share.specs.Calls.{IsTied};
-ghost use Rattle.gr_share.specs.Seats.{IsDesk, IsWorker, AreAll};
+ghost use Rattle.gr_share.specs.Seats.{IsDesk, IsWorker, AreAll, LacksSeat};
 ghost use Rattle.gr_share.specs.Works.{IsAtWork};
 
 use crate::desk::{Desk, Worker};
@@ -30,36 +30,31 @@ pub struct Unfinished<B: Room> {
     pub workers: Vec<Worker<B>>,
 }
 
-/// Whether the word is 0 for each desk: then the entries of each are its calls.
-fn settle_desks<B: Room>(locked: &mut Locked<B>, tie: &Tie, desks: &mut [Desk<B>]) -> bool
+/// The entries of each desk are its calls.
+fn settle_desks<B: Room>(locked: &mut Locked<B>, tie: &Tie, desks: &mut [Desk<B>])
     requires { tie.now.table.shared.table_id ≡ B.table }
     ensures same { (locked.new ≡ locked.old) × (desks.new ≡ desks.old) }
-    ensures tied { IsTrue result → All (λ d. IsTied locked.old.session d) desks.old }
+    ensures tied { All (λ d. IsTied locked.old.session d) desks.old }
 {
     for desk in desks.iter_mut() {
-        if !locked.settle(tie, desk) {
-            return false;
-        }
+        locked.settle(tie, desk);
     }
-    true
 }
 
-fn settle_workers<B: Room>(locked: &mut Locked<B>, tie: &Tie, workers: &mut [Worker<B>]) -> bool
+fn settle_workers<B: Room>(locked: &mut Locked<B>, tie: &Tie, workers: &mut [Worker<B>])
     requires { tie.now.table.shared.table_id ≡ B.table }
     ensures same { (locked.new ≡ locked.old) × (workers.new ≡ workers.old) }
-    ensures tied { IsTrue result → All (λ w. IsTied locked.old.session w.seat) workers.old }
-    ensures at_work { IsTrue result → All (IsAtWork B.program) workers.old }
+    ensures tied { All (λ w. IsTied locked.old.session w.seat) workers.old }
+    ensures at_work { All (IsAtWork B.program) workers.old }
 {
     for worker in workers.iter_mut() {
-        if !locked.settle(tie, &mut worker.seat) {
-            return false;
-        }
+        locked.settle(tie, &mut worker.seat);
     }
-    true
 }
 
 fn is_desk<B: Room>(number: u32, desks: &[Desk<B>]) -> bool
-    ensures { IsTrue result → IsDesk number desks.now }
+    ensures here { IsTrue result → IsDesk number desks.now }
+    ensures missing { IsFalse result → ¬ IsDesk number desks.now }
 {
     for desk in desks {
         if desk.number == number {
@@ -70,7 +65,8 @@ fn is_desk<B: Room>(number: u32, desks: &[Desk<B>]) -> bool
 }
 
 fn is_worker<B: Room>(number: u32, workers: &[Worker<B>]) -> bool
-    ensures { IsTrue result → IsWorker number workers.now }
+    ensures here { IsTrue result → IsWorker number workers.now }
+    ensures missing { IsFalse result → ¬ IsWorker number workers.now }
 {
     for worker in workers {
         if worker.seat.number() == number {
@@ -81,7 +77,8 @@ fn is_worker<B: Room>(number: u32, workers: &[Worker<B>]) -> bool
 }
 
 fn is_seat<B: Room>(number: u32, desks: &[Desk<B>], workers: &[Worker<B>]) -> bool
-    ensures { IsTrue result → IsDesk number desks.now ⊎ IsWorker number workers.now }
+    ensures here { IsTrue result → IsDesk number desks.now ⊎ IsWorker number workers.now }
+    ensures missing { IsFalse result → ¬ IsDesk number desks.now × ¬ IsWorker number workers.now }
 {
     if is_desk(number, desks) {
         return true;
@@ -91,7 +88,8 @@ fn is_seat<B: Room>(number: u32, desks: &[Desk<B>], workers: &[Worker<B>]) -> bo
 
 /// Whether the seats of all numbers after the first and up to the last are there.
 fn are_all<B: Room>(first: u32, last: u32, desks: &[Desk<B>], workers: &[Worker<B>]) -> bool
-    ensures { IsTrue result → AreAll first last desks.now workers.now }
+    ensures all { IsTrue result → AreAll first last desks.now workers.now }
+    ensures lacks { IsFalse result → LacksSeat first last desks.now workers.now }
 {
     let mut number = first;
     while number < last {
@@ -103,32 +101,29 @@ fn are_all<B: Room>(first: u32, last: u32, desks: &[Desk<B>], workers: &[Worker<
     true
 }
 
+/// Has the entries of each asker be its calls.
 fn settle<B: Room>(
     locked: &mut Locked<B>,
     tie: &Tie,
-    first: u32,
     desks: &mut [Desk<B>],
     workers: &mut [Worker<B>],
-) -> bool
+)
     requires { tie.now.table.shared.table_id ≡ B.table }
     ensures same { (locked.new ≡ locked.old) × (desks.new ≡ desks.old) × (workers.new ≡ workers.old) }
-    ensures all { IsTrue result → AreAll first locked.old.session.askers desks.old workers.old }
-    ensures desks { IsTrue result → All (λ d. IsTied locked.old.session d) desks.old }
-    ensures workers { IsTrue result → All (λ w. IsTied locked.old.session w.seat) workers.old }
-    ensures at_work { IsTrue result → All (IsAtWork B.program) workers.old }
+    ensures desks { All (λ d. IsTied locked.old.session d) desks.old }
+    ensures workers { All (λ w. IsTied locked.old.session w.seat) workers.old }
+    ensures at_work { All (IsAtWork B.program) workers.old }
 {
-    if !are_all(first, locked.askers(), desks, workers) {
-        return false;
-    }
-    if !settle_desks(locked, tie, desks) {
-        return false;
-    }
-    settle_workers(locked, tie, workers)
+    settle_desks(locked, tie, desks);
+    settle_workers(locked, tie, workers);
 }
 
-/// Ends the sharing. Where no seat is missing, each asker's entries in the journal are its calls, and those of a worker are turns
-/// and steps that it was lent to take. The journal is full where an asker was told so. The session is one of the program that was
-/// shared, and its journal begins with the entries that it had then.
+/// Ends the sharing. It is refused exactly where a seat is missing: that of an asker whose number is above those before the sharing,
+/// and at most that of the askers that there may be. Then all comes back.
+///
+/// Each asker's entries in the journal are its calls, and those of a worker are turns and steps that it was lent to take. The
+/// journal is full where an asker was told so. The session is one of the program that was shared, and its journal begins with the
+/// entries that it had then.
 pub fn finish<B: Room>(
     shared: Shared<B>,
     mut desks: Vec<Desk<B>>,
@@ -140,6 +135,7 @@ pub fn finish<B: Room>(
     ensures all { IfOk result (λ f. AreAll shared.first f.session.askers desks.items workers.items) }
     ensures program { IfOk result (λ f. program_of f.session.program ≡ B.program) }
     ensures before { IfOk result (λ f. IsPrefix B.before f.session.journal) }
+    ensures lacks { OnErr result (LacksSeat shared.first B.last desks.items workers.items) }
     ensures back { IfErr result (λ u. (u.desks.items ≡ desks.items) × (u.workers.items ≡ workers.items)
         × (u.shared.first ≡ shared.first)) }
 {
@@ -150,13 +146,13 @@ pub fn finish<B: Room>(
         first,
     } = shared;
     let mut locked = lock.into_inner();
-    if settle(
-        &mut locked,
-        &tie,
-        first,
-        desks.as_mut_slice(),
-        workers.as_mut_slice(),
-    ) {
+    if are_all(first, locked.askers(), desks.as_slice(), workers.as_slice()) {
+        settle(
+            &mut locked,
+            &tie,
+            desks.as_mut_slice(),
+            workers.as_mut_slice(),
+        );
         Ok(Finished {
             session: locked.into_session(),
             desks,

@@ -11,8 +11,8 @@ ghost use Rattle.gr_session.specs.Entries.{InItsWorld};
 ghost use Rattle.gr_session.specs.Granting.{CanLend, IsTurnDue};
 ghost use Rattle.gr_session.specs.Growing.{Grows};
 ghost use Rattle.gr_session.specs.Wants.{MayWantMemory};
-ghost use Rattle.gr_share.specs.Calls.{EntersCall, IsTied};
-ghost use Rattle.gr_share.specs.Ties.{after_refusal, asking, told, numbers_of, AllBelow};
+ghost use Rattle.gr_share.specs.Calls.{EntersCall, IsTied, is_told};
+ghost use Rattle.gr_share.specs.Ties.{asking, told, numbers_of, AllBelow};
 ghost use Rattle.gr_share.specs.Works.{Lends};
 ghost use Rattle.gr_share.specs.Finding.{Finds, IsClosed, HasReason};
 
@@ -44,6 +44,8 @@ pub(crate) enum Found {
 pub(crate) struct Locked<B: Room> {
     pub(crate) session: Session,
     pub(crate) keeper: Pass,
+    /// How many seats are left to be given.
+    pub(crate) left: u32,
     /// How many workers there are.
     pub(crate) workers: u32,
     /// Whether they shall end.
@@ -52,7 +54,7 @@ pub(crate) struct Locked<B: Room> {
 }
 
 impl<B: Room> Model for Locked<B> {
-    ghost use Rattle.std.specs.Prelude.{◌≡◌, ◌≤◌};
+    ghost use Rattle.std.specs.Prelude.{◌≡◌, ◌+◌, ◌≤◌};
     ghost use mathlib.Core.List.{IsPrefix};
     ghost use Rattle.gr_program.specs.contracts.program.Expr as expr;
     ghost use Rattle.gr_program.specs.contracts.program.Stmt as stmt;
@@ -80,7 +82,7 @@ impl<B: Room> Model for Locked<B> {
     ghost invariant = { λ s. (s.keeper.table_id ≡ B.table) × (s.keeper.me.0 ≡ keeping s.keeper.me.0.log s.session.askers)
         × Tells (program_of s.session.program) s.session.journal s.keeper.me.0.log
         × (program_of s.session.program ≡ B.program) × (B.first ≤ s.session.askers)
-        × IsPrefix B.before s.session.journal };
+        × IsPrefix B.before s.session.journal × (s.session.askers + s.left ≡ B.last) };
 }
 
 impl<B: Room> Locked<B> {
@@ -90,16 +92,21 @@ impl<B: Room> Locked<B> {
         ensures desk { IfOk result (λ d. (1 ≤ d.0.number) × (d.1.table_id ≡ B.table) × (d.1.me.0 ≡ asking d.0.number [] false)) }
         ensures after { IfOk result (λ d. B.first < d.0.number) }
         ensures number { IfOk result (λ d. (d.0.number ≡ self.old.session.askers + 1) × (self.new.session.askers ≡ d.0.number)) }
-        ensures full { IsErrOf result EnrolRefused.Full ↔ (self.old.session.askers ≡ ASKER_LIMIT) }
+        ensures full { IsErrOf result EnrolRefused.Full
+            ↔ ((self.old.session.askers ≡ B.last) ⊎ (self.old.session.askers ≡ ASKER_LIMIT)) }
         ensures memory { IsErrOf result EnrolRefused.NoMemory → ⊥ }
         ensures others { (self.new.session.journal ≡ self.old.session.journal)
             × (self.new.session.program ≡ self.old.session.program)
             × (self.new.workers ≡ self.old.workers) }
         ensures err { OnErr result (self.new ≡ self.old) }
     {
+        if self.left == 0 {
+            return Err(EnrolRefused::Full);
+        }
         match self.session.enrol() {
             Err(why) => Err(why),
             Ok(desk) => {
+                self.left -= 1;
                 let seat = tie.open(&mut self.keeper);
                 Ok((desk, seat))
             }
@@ -113,7 +120,8 @@ impl<B: Room> Locked<B> {
         ensures after { IfOk result (λ d. B.first < d.0.number) }
         ensures place { IfOk result (λ d. (d.2 ≡ min (self.old.workers + 1) (2 ^ 32 - 1)) × (self.new.workers ≡ d.2)) }
         ensures first { IfOk result (λ d. 1 ≤ d.2) }
-        ensures full { IsErrOf result EnrolRefused.Full ↔ (self.old.session.askers ≡ ASKER_LIMIT) }
+        ensures full { IsErrOf result EnrolRefused.Full
+            ↔ ((self.old.session.askers ≡ B.last) ⊎ (self.old.session.askers ≡ ASKER_LIMIT)) }
         ensures memory { IsErrOf result EnrolRefused.NoMemory → ⊥ }
         ensures others { (self.new.session.journal ≡ self.old.session.journal)
             × (self.new.session.program ≡ self.old.session.program) }
@@ -151,7 +159,8 @@ impl<B: Room> Locked<B> {
             self.old.session.journal self.new.session.journal c.receipt.number (said_of c.receipt.reply)) }
         ensures limit { IsErrOf result AskRefused.JournalFull ↔ (length self.old.session.journal ≡ JOURNAL_LIMIT) }
         ensures memory { IsErrOf result AskRefused.NoMemory → Grows (length self.old.session.journal) ⊎ MayWantMemory command }
-        ensures err { IfErr result (λ why. (seat.new.me.0 ≡ after_refusal why seat.old.me.0) × (self.new ≡ self.old)) }
+        ensures err { IfErr result (λ why.
+            (seat.new.me.0 ≡ asking number seat.old.me.0.calls (is_told why seat.old.me.0.told_full)) × (self.new ≡ self.old)) }
     {
         tie.compare(&mut self.keeper, seat);
         match self.session.ask(alloc, DeskId { number }, command) {
@@ -195,7 +204,8 @@ impl<B: Room> Locked<B> {
         ensures decided { IfOk result (λ c. Decides self.old.session batch (said_of c.receipt.reply) self.new.session) }
         ensures limit { IsErrOf result AskRefused.JournalFull ↔ (length self.old.session.journal ≡ JOURNAL_LIMIT) }
         ensures memory { IsErrOf result AskRefused.NoMemory → Grows (length self.old.session.journal) }
-        ensures err { IfErr result (λ why. (seat.new.me.0 ≡ after_refusal why seat.old.me.0) × (self.new ≡ self.old)) }
+        ensures err { IfErr result (λ why.
+            (seat.new.me.0 ≡ asking number seat.old.me.0.calls (is_told why seat.old.me.0.told_full)) × (self.new ≡ self.old)) }
     {
         tie.compare(&mut self.keeper, seat);
         let steps = batch.len();
@@ -266,22 +276,23 @@ impl<B: Room> Locked<B> {
         }
     }
 
-    /// Whether the word is 0: then the desk's entries are its calls.
-    pub(crate) fn settle(&mut self, tie: &Tie, desk: &mut Desk<B>) -> bool
+    /// The desk's entries are its calls.
+    pub(crate) fn settle(&mut self, tie: &Tie, desk: &mut Desk<B>)
         requires { tie.now.table.shared.table_id ≡ B.table }
         ensures same { (self.new ≡ self.old) × (desk.new ≡ desk.old) }
-        ensures tied { IsTrue result → IsTied self.old.session desk.old }
+        ensures tied { IsTied self.old.session desk.old }
     {
         // brings its length to the prover
         let _ = self.session.journal();
         tie.compare(&mut self.keeper, &mut desk.seat);
-        tie.show(&mut self.keeper, &mut desk.seat);
-        tie.settle(&mut desk.seat)
+        tie.show_taken(&mut self.keeper, &mut desk.seat);
+        tie.settle(&mut desk.seat);
     }
 
     /// How many askers there are.
     pub(crate) fn askers(&self) -> u32
-        ensures { result ≡ self.now.session.askers }
+        ensures count { result ≡ self.now.session.askers }
+        ensures few { result ≤ B.last }
     {
         self.session.askers()
     }
@@ -294,6 +305,7 @@ impl<B: Room> Locked<B> {
         let Locked {
             session,
             keeper: _,
+            left: _,
             workers: _,
             closed: _,
             room: _,

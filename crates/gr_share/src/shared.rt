@@ -1,5 +1,5 @@
 //! A session that desks and workers share.
-ghost use Rattle.std.specs.Prelude.{◌≡◌, ◌<◌, ◌≤◌, [], IfOk, IsErrOf};
+ghost use Rattle.std.specs.Prelude.{◌≡◌, ◌+◌, ◌<◌, ◌≤◌, [], IfOk, IsErrOf};
 ghost use Rattle.gr_program.specs.Views.{program_of};
 
 use crate::desk::{Desk, Worker};
@@ -88,11 +88,12 @@ impl<B: Room> Model for Shared<B> {
 }
 
 impl<B: Room> Shared<B> {
-    /// Shares the session, which the caller's `B` names.
-    pub fn new(opened: Opened) -> Shared<B>
+    /// Shares the session, which the caller's `B` names. At most so many seats are given.
+    pub fn new(opened: Opened, seats: u32) -> Shared<B>
         requires table { opened.table ≡ B.table }
         requires session { (program_of opened.session.program ≡ B.program) × (opened.session.askers ≡ B.first) }
         requires before { opened.session.journal ≡ B.before }
+        requires seats { B.last ≡ B.first + seats }
         ensures { result.first ≡ opened.session.askers }
     {
         let Opened {
@@ -106,6 +107,7 @@ impl<B: Room> Shared<B> {
             lock: Mutex::new(Locked {
                 session,
                 keeper,
+                left: seats,
                 workers: 0,
                 closed: false,
                 room: PhantomData,
@@ -126,7 +128,7 @@ impl<B: Room> Shared<B> {
         self.lock.lock(rt)
     }
 
-    /// A further desk. It waits for the lock, and takes no memory.
+    /// A further desk. It is refused where as many seats are given as may be. It waits for the lock, and takes no memory.
     pub fn desk<R: Wait>(&self, rt: &R, alloc: Global) -> Result<Desk<B>, EnrolRefused>
         ensures desk { IfOk result (λ d. (d.calls ≡ []) × (self.now.first < d.number)) }
         ensures memory { IsErrOf result EnrolRefused.NoMemory → ⊥ }
@@ -140,8 +142,8 @@ impl<B: Room> Shared<B> {
         })
     }
 
-    /// A further worker's seat. Their places are numbered from 1, in the order in which they are given. It waits for the lock,
-    /// and takes no memory.
+    /// A further worker's seat, which is refused as a desk is. Their places are numbered from 1, in the order in which they are given.
+    /// It waits for the lock, and takes no memory.
     pub fn worker_seat<R: Wait>(&self, rt: &R, alloc: Global) -> Result<Worker<B>, EnrolRefused>
         ensures worker { IfOk result (λ w. (w.seat.calls ≡ []) × (self.now.first < w.seat.number) × (1 ≤ w.place)) }
         ensures memory { IsErrOf result EnrolRefused.NoMemory → ⊥ }

@@ -1,11 +1,13 @@
 //! The one table, and the moves on it.
-ghost use Rattle.std.specs.Prelude.{◌≡◌, ℕ, ◌+◌, ◌<◌, ◌≤◌, true, [], ◌∷◌, ◌++◌, length, IsTrue, IfOk};
+ghost use Rattle.std.specs.Prelude.{◌≡◌, ℕ, ◌+◌, ◌<◌, ◌≤◌, true, [], ◌∷◌, ◌++◌, length, IfOk};
 ghost use mathlib.Core.List.{IsPrefix};
-ghost use Rattle.gr_share.specs.Ties.{after_refusal, asked, front, keeping, asking, older_lines, sight, hearing, told, with_asker, newest, IsFull};
+ghost use Rattle.gr_share.specs.Calls.{is_told};
+ghost use Rattle.gr_share.specs.Ties.{asked, front, keeping, entering, asking, older_lines, sight, sight_taken, hearing, told, with_asker, newest, IsFull};
 
 use crate::desk::Call;
 use crate::views::{
-    Claims, Compares, Enters, Hears, Law, Notes, Opens, Pass, Settles, Shows, Takes, View,
+    Claims, Compares, Enters, Hears, Law, Notes, Opens, Pass, Rests, Settles, Shows, ShowsTaken,
+    Takes, View,
 };
 use atomic_table::Table;
 use gr_session::{AskRefused, Session};
@@ -33,7 +35,7 @@ impl Tie {
     /// A seat for the next asker.
     pub(crate) fn open(&self, keeper: &mut Pass) -> Pass
         requires table { keeper.old.table_id ≡ self.now.table.shared.table_id }
-        requires keeper { keeper.old.me.0.keeps ≡ true }
+        requires keeper { (keeper.old.me.0.keeps ≡ true) × (keeper.old.me.0.rests ≡ true) }
         ensures keeper { (keeper.new.table_id ≡ keeper.old.table_id) × (keeper.new.me.0 ≡ with_asker keeper.old.me.0) }
         ensures desk { (result.table_id ≡ keeper.old.table_id) × (result.me.0 ≡ newest keeper.old.me.0) }
     {
@@ -63,7 +65,7 @@ impl Tie {
         requires keeper { keeper.old.me.0.keeps ≡ true }
         requires line { (0 < asker) × (asker ≤ keeper.old.me.0.askers) }
         ensures { (keeper.new.table_id ≡ keeper.old.table_id)
-            × (keeper.new.me.0 ≡ keeping (keeper.old.me.0.log ++ told asker call.now ∷ []) keeper.old.me.0.askers) }
+            × (keeper.new.me.0 ≡ entering (keeper.old.me.0.log ++ told asker call.now ∷ []) keeper.old.me.0.askers) }
     {
         let word = u64::from(asker);
         for _ in rt.forever() {
@@ -90,6 +92,33 @@ impl Tie {
         self.table.shared.join_seat::<Hears>(desk, note);
     }
 
+    /// An asker is shown the journal, whose lines are all among the calls of their askers.
+    pub(crate) fn show_taken(&self, keeper: &mut Pass, desk: &mut Pass)
+        requires tables { (keeper.old.table_id ≡ self.now.table.shared.table_id)
+            × (desk.old.table_id ≡ self.now.table.shared.table_id) }
+        requires keeper { (keeper.old.me.0.keeps ≡ true) × (keeper.old.me.0.rests ≡ true) }
+        ensures keeper { (keeper.new.table_id ≡ keeper.old.table_id) × (keeper.new.me.0 ≡ keeper.old.me.0) }
+        ensures desk { (desk.new.table_id ≡ desk.old.table_id)
+            × (desk.new.me.0 ≡ hearing desk.old.me.0 (sight_taken keeper.old.me.0.log)) }
+    {
+        let note = self.table.shared.split_seat::<ShowsTaken>(keeper);
+        self.table.shared.join_seat::<Hears>(desk, note);
+    }
+
+    /// The session's seat waits until the word is 0.
+    pub(crate) fn rest<R: Wait>(&self, rt: &R, keeper: &mut Pass)
+        requires table { keeper.old.table_id ≡ self.now.table.shared.table_id }
+        requires keeper { keeper.old.me.0.keeps ≡ true }
+        ensures { (keeper.new.table_id ≡ keeper.old.table_id)
+            × (keeper.new.me.0 ≡ keeping keeper.old.me.0.log keeper.old.me.0.askers) }
+    {
+        for _ in rt.forever() {
+            if self.table.shared.load::<Rests>(keeper, 0) == 0 {
+                break;
+            }
+        }
+    }
+
     /// An asker's seat takes its call.
     pub(crate) fn take<R: Wait>(&self, rt: &R, desk: &mut Pass, asker: u32, call: &Call)
         requires table { desk.old.table_id ≡ self.now.table.shared.table_id }
@@ -112,15 +141,15 @@ impl Tie {
         }
     }
 
-    /// Whether the word is 0: then the asker's lines of the journal that it was shown are calls of it.
-    pub(crate) fn settle(&self, desk: &mut Pass) -> bool
+    /// The asker's lines of the journal that it was shown are calls of it.
+    pub(crate) fn settle(&self, desk: &mut Pass)
         requires table { desk.old.table_id ≡ self.now.table.shared.table_id }
         requires desk { 0 < desk.old.me.0.asker }
         ensures desk { (desk.new.table_id ≡ desk.old.table_id)
             × (desk.new.me.0 ≡ asking desk.old.me.0.asker desk.old.me.0.calls desk.old.me.0.told_full) }
-        ensures settled { IsTrue result → IsPrefix (asked desk.old.me.0.asker desk.old.me.0.seen) desk.old.me.0.calls }
+        ensures settled { IsPrefix (asked desk.old.me.0.asker desk.old.me.0.taken) desk.old.me.0.calls }
     {
-        self.table.shared.load::<Settles>(desk, 0) == 0
+        self.table.shared.load::<Settles>(desk, 0);
     }
 
     /// An asker's seat that was shown a full journal notes that it is full.
@@ -139,10 +168,12 @@ impl Tie {
         requires tables { (keeper.old.table_id ≡ self.now.table.shared.table_id)
             × (desk.old.table_id ≡ self.now.table.shared.table_id) }
         requires keeper { keeper.old.me.0.keeps ≡ true }
-        requires desk { 0 < desk.old.me.0.asker }
+        requires desk { (0 < desk.old.me.0.asker)
+            × (desk.old.me.0 ≡ asking desk.old.me.0.asker desk.old.me.0.calls desk.old.me.0.told_full) }
         requires full { why ≡ AskRefused.JournalFull → IsFull keeper.old.me.0.log }
         ensures keeper { (keeper.new.table_id ≡ keeper.old.table_id) × (keeper.new.me.0 ≡ keeper.old.me.0) }
-        ensures desk { (desk.new.table_id ≡ desk.old.table_id) × (desk.new.me.0 ≡ after_refusal why desk.old.me.0) }
+        ensures desk { (desk.new.table_id ≡ desk.old.table_id)
+            × (desk.new.me.0 ≡ asking desk.old.me.0.asker desk.old.me.0.calls (is_told why desk.old.me.0.told_full)) }
     {
         match why {
             AskRefused::JournalFull => {
@@ -153,7 +184,7 @@ impl Tie {
         }
     }
 
-    /// Both seats take a line: the session's as an entry, the asker's as a call.
+    /// Both seats take a line: the session's as an entry, the asker's as a call. Then the word is 0 again.
     pub(crate) fn give<R: Wait>(
         &self,
         rt: &R,
@@ -177,5 +208,6 @@ impl Tie {
         self.enter(rt, keeper, asker, call);
         self.show(keeper, desk);
         self.take(rt, desk, asker, call);
+        self.rest(rt, keeper);
     }
 }

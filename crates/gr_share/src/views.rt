@@ -21,10 +21,12 @@ impl Model for Line {
 
 /// What a seat knows. No value of it is made.
 pub struct View {
-    /// The session's seat: the lines of the journal, and how many askers there are.
+    /// The session's seat: the lines of the journal, how many askers there are, and whether it found the word 0 since its last
+    /// entry.
     pub keeps: bool,
     pub log: LinkedList<Line>,
     pub askers: u64,
+    pub rests: bool,
     /// An asker's seat: its number, its calls, and whether it was told that the journal is full.
     pub asker: u64,
     pub calls: LinkedList<Line>,
@@ -35,9 +37,12 @@ pub struct View {
     pub noted_full: bool,
     /// A note of the journal's lines.
     pub seen: LinkedList<Line>,
+    /// A note of the journal's lines, each among the calls of its asker.
+    pub taken: LinkedList<Line>,
 }
 
-/// Names what a `Shared` was made of: its one table, and its session's program, number of askers and journal.
+/// Names what a `Shared` was made of: its one table, its session's program, number of askers and journal, and how many askers it may
+/// come to have.
 pub trait Room {
     ghost use Rattle.std.specs.Prelude.{ℕ, List};
     ghost use Rattle.atomic_table.specs.Seated.{TableId};
@@ -49,6 +54,8 @@ pub trait Room {
     ghost program: { Program };
 
     ghost first: { ℕ };
+
+    ghost last: { ℕ };
 
     ghost before: { List Entry };
 }
@@ -62,6 +69,8 @@ impl Room for Brand {
     ghost program = { no_program };
 
     ghost first = { 0 };
+
+    ghost last = { 0 };
 
     ghost before = { [] };
 }
@@ -110,6 +119,17 @@ impl Split<View> for Shows {
     ghost right = { λ v. sight v.log };
 }
 
+/// A note of the journal, whose lines are all among the calls of their askers.
+pub struct ShowsTaken;
+
+impl Split<View> for ShowsTaken {
+    ghost use Rattle.gr_share.specs.Ties.{sight_taken};
+
+    ghost left = { λ v. v };
+
+    ghost right = { λ v. sight_taken v.log };
+}
+
 /// A note is taken in.
 pub struct Hears;
 
@@ -139,6 +159,15 @@ impl Play<Call, View> for Enters {
     ghost then = { λ st m r n. Entered st.first st.second st.said m.0 r n.0 };
 }
 
+/// The session's seat looks whether the word is 0.
+pub struct Rests;
+
+impl Play<Call, View> for Rests {
+    ghost use Rattle.gr_share.specs.Ties.{Rested};
+
+    ghost then = { λ st m r n. Rested m.0 r n.0 };
+}
+
 /// An asker's seat takes its call.
 pub struct Takes;
 
@@ -148,13 +177,13 @@ impl Play<Call, View> for Takes {
     ghost then = { λ st m r n. Taken st.first st.said m.0 r n.0 };
 }
 
-/// An asker's seat compares its calls with a journal that it was shown.
+/// An asker's seat compares its calls with a journal, whose lines are all among the calls of their askers.
 pub struct Settles;
 
 impl Play<Call, View> for Settles {
     ghost use Rattle.gr_share.specs.Ties.{Settled};
 
-    ghost then = { λ st m r n. Settled m.0 r n.0 };
+    ghost then = { λ st m r n. Settled m.0 n.0 };
 }
 
 /// An asker's seat that was shown a full journal notes that it is full.

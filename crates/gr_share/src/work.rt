@@ -26,7 +26,7 @@ impl<B: Room> Worker<B> {
     ghost use Rattle.gr_session.specs.Copies.{loan_of};
     ghost use Rattle.gr_session.specs.declared.journal.Entry.{Entry};
     ghost use Rattle.gr_share.specs.Works.{Lends};
-    ghost use Rattle.gr_share.specs.Finding.{WorksOnce, CommitsUpTo};
+    ghost use Rattle.gr_share.specs.Finding.{WorksOnce};
 
     /// Takes steps on the copy, without the lock, and commits them. It tells whether it may go on: not when out of memory, and not
     /// behind a batch that was cut.
@@ -42,7 +42,6 @@ impl<B: Room> Worker<B> {
         requires own { (loan_of lease.copy).program ≡ B.program }
         requires lent { (journal : List Entry) × Lends B.program journal self.old.place lease limit }
         ensures works { WorksOnce B.program self.old.place result self.old.seat self.new.seat }
-        ensures few { CommitsUpTo limit self.old.seat self.new.seat }
         ensures place { self.new.place ≡ self.old.place }
     {
         let Ok(batch) = run_batch(alloc, lease, limit, gate) else {

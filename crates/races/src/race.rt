@@ -1,5 +1,5 @@
 //! Desks and workers on one session, each on a thread of its own.
-ghost use Rattle.std.specs.Prelude.{◌≡◌};
+ghost use Rattle.std.specs.Prelude.{◌≡◌, ◌+◌};
 ghost use Rattle.gr_program.specs.Views.{program_of};
 
 use crate::chance::{draw, in_turn};
@@ -194,8 +194,9 @@ pub fn race_all<B: Room + Send + Sync, T: Threads + Wait + Sync>(
     requires table { opened.table ≡ B.table }
     requires session { (program_of opened.session.program ≡ B.program) × (opened.session.askers ≡ B.first) }
     requires before { opened.session.journal ≡ B.before }
+    requires seats { B.last ≡ B.first + 1000 }
 {
-    let shared = Shared::<B>::new(opened);
+    let shared = Shared::<B>::new(opened, 1000);
     let done = AtomicU64::new(0);
     let mut all = callers(rt, alloc, &shared, load)?;
     if call_at_once(rt, alloc, &shared, &done, all.as_mut_slice()) {

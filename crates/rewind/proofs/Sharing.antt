@@ -11,7 +11,7 @@ use Rattle.gr_serve.specs.declared.debug.DebugFault.{DebugFault}
 use Rattle.gr_serve.specs.declared.debug.DebugFault.TheVariants.{Source, Open, Serve, Threads}
 use Rattle.gr_lines.specs.Devices.{Device, Change, NeverFails}
 use Rattle.gr_serve.specs.Debug.{Opened, SourceLeft, BlamesDevice}
-use Rattle.rewind.specs.Beside.{LeftBeside, LeftSettled, BlamesBeside, Settled, StreamLeft, BlamesStream, Streamed, EndedWith, BesideEnds, DebuggedBeside, BesideLeft, IsStill}
+use Rattle.rewind.specs.Beside.{LeftSettled, Settled, StreamLeft, BlamesStream, Streamed, EndedWith, BesideEnds, DebuggedBeside, BesideLeft, IsStill}
 use Rattle.gr_lines.proofs.Known.{Keeps-refl}
 
 abbrev pub still : Device → Change
@@ -26,7 +26,7 @@ still_keeps device e = subst (λ d. Keeps device.old.bytes d.bytes) (sym e) (Kee
 
 pub no_threads : (program : Program) (reader writer : Change) → IsStill reader → IsStill writer → StreamLeft program Threads reader writer × BlamesStream Threads reader writer
 no_threads program reader writer r w =
-    (inl (still_keeps reader r, still_keeps writer w), inl (ap (λ (d : Device). d.failures) r, ap (λ (d : Device). d.failures) w))
+    ((still_keeps reader r, still_keeps writer w), (ap (λ (d : Device). d.failures) r, ap (λ (d : Device). d.failures) w))
 
 -- the stream's fault is the session's
 left_beside : (program : Program) (fault : ServeFault) (reader writer : Change) → LeftSettled program fault reader writer → StreamLeft program (Serve fault) reader writer
@@ -38,17 +38,12 @@ pub ends : {A E : Type 0} (program : Program) (served : Result E ServeFault) (re
     → old.calls ≡ [] → Streamed old desk served reader writer → EndedWith served (Settled program (desk ∷ [])) result → BesideEnds program result reader writer
 ends program (Ok v) (Ok u) old desk reader writer fresh stream told =
     (record { stream = record { old = old; fresh = fresh; desk = desk; served = stream.0 }; settled = told.0 }, stream.1)
-ends program (Ok v) (Err fault) old desk reader writer fresh stream told =
-    subst (λ f. StreamLeft program f reader writer × BlamesStream f reader writer) (sym told.1)
-    (inr (inl (record { old = old; fresh = fresh; desk = desk; served = stream.0 })), inl stream.1)
-ends program (Err why) (Ok u) old desk reader writer fresh stream told = absurd told.1
+ends program (Ok v) (Err fault) old desk reader writer fresh stream told = absurd told.1
+ends program (Err why) (Ok u) old desk reader writer fresh stream told = absurd told.1.0
 ends program (Err why) (Err fault) old desk reader writer fresh stream told =
-    let left : LeftBeside why reader writer = record { old = old; fresh = fresh; desk = desk; left = stream.0 } in
-    let P : DebugFault → Type 0 = λ f. StreamLeft program f reader writer × BlamesStream f reader writer in
-    elim told.0 [
-      | inl t ↦ subst P (sym t.0) (left_beside program why reader writer (record { stream = left; settled = t.1 }), stream.1)
-      | inr t ↦ subst P (sym t) (inr (inr (why, left)), inr (why, stream.1))
-    ]
+    let left : LeftSettled program why reader writer =
+    record { stream = record { old = old; fresh = fresh; desk = desk; left = stream.0 }; settled = told.0 } in
+    subst (λ f. StreamLeft program f reader writer × BlamesStream f reader writer) (sym told.1.1) (left_beside program why reader writer left, stream.1)
 
 -- the fault of a served session is the session's or the source's
 pub served : {A : Type 0} (program : Program) (result : Result A DebugFault) (source reader writer : Change)
@@ -65,7 +60,7 @@ stream_left program (Serve Write) source reader writer o h = record { program = 
 stream_left program (Serve Memory) source reader writer o h = inr (record { program = program; opened = o; left = h })
 stream_left program Threads source reader writer o h = record { program = program; opened = o; left = h }
 
-stream_blamed : (fault : DebugFault) (source reader writer : Change) → NeverFails source → BlamesStream fault reader writer → BlamesBeside fault source reader writer
+stream_blamed : (fault : DebugFault) (source reader writer : Change) → NeverFails source → BlamesStream fault reader writer → BlamesDevice fault source reader writer
 stream_blamed Source source reader writer n b = absurd b
 stream_blamed (Open error) source reader writer n b = absurd b
 stream_blamed (Serve fault) source reader writer n b = (n, b)
@@ -78,7 +73,7 @@ left program (Ok v) source reader writer opened h = tt
 left program (Err fault) source reader writer opened h = stream_left program fault source reader writer opened h.0
 
 pub blamed : {A : Type 0} (program : Program) (result : Result A DebugFault) (source reader writer : Change)
-    → NeverFails source → BesideEnds program result reader writer → IfErr result (λ fault. BlamesBeside fault source reader writer)
+    → NeverFails source → BesideEnds program result reader writer → IfErr result (λ fault. BlamesDevice fault source reader writer)
 blamed program (Ok v) source reader writer never h = tt
 blamed program (Err fault) source reader writer never h = stream_blamed fault source reader writer never h.1
 
@@ -90,10 +85,3 @@ unshared (Serve Read) source reader writer h = absurd h
 unshared (Serve Write) source reader writer h = absurd h
 unshared (Serve Memory) source reader writer h = inl (h, (Keeps-refl reader.bytes, Keeps-refl writer.bytes))
 unshared Threads source reader writer h = absurd h
-
--- without a session the fault is the source's
-pub blamed_beside : (fault : DebugFault) (source reader writer : Change) → BlamesDevice fault source reader writer → BlamesBeside fault source reader writer
-blamed_beside Source source reader writer b = b
-blamed_beside (Open error) source reader writer b = b
-blamed_beside (Serve fault) source reader writer b = b
-blamed_beside Threads source reader writer b = (b.0, inl b.1)

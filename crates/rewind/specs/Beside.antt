@@ -1,5 +1,5 @@
 -- A session beside workers, from its source to its last reply.
-use Rattle.std.specs.Prelude.{◌≡◌, Bool, true, false, List, [], ◌∷◌, ◌⊎◌, All, Option, Some, None, Result, Ok, Err, OnOk, IfErr}
+use Rattle.std.specs.Prelude.{◌≡◌, ℕ, suc, List, [], ◌∷◌, ◌⊎◌, All, map, Result, Ok, Err, OnOk, OnErr, IfErr}
 use Rattle.gr_program.specs.Programs.{Program}
 use Rattle.gr_program.specs.Views.{program_of}
 use Rattle.gr_share.specs.Entries.{IsLegal}
@@ -13,7 +13,7 @@ use Rattle.gr_serve.specs.declared.debug.DebugFault.{DebugFault}
 use Rattle.gr_serve.specs.declared.debug.DebugFault.TheVariants.{Source, Open, Serve, Threads}
 use Rattle.gr_lines.specs.Devices.{Change, NeverFails}
 use Rattle.gr_serve.specs.Fault.{Blames}
-use Rattle.gr_serve.specs.Debug.{Opened, Unopened, NothingDone, NeverServed, BlamesDevice}
+use Rattle.gr_serve.specs.Debug.{Opened, Unopened, NothingDone, NeverServed}
 use Rattle.gr_serve.specs.Clients.{StreamEnds}
 use Rattle.rewind.specs.DeskStreams.{of_desk, Serves, Leaves}
 
@@ -53,32 +53,21 @@ pub record LeftSettled (program : Program) (fault : ServeFault) (reader writer :
   pub stream : LeftBeside fault reader writer
   pub settled : Settled program (stream.desk ∷ [])
 
--- such a stream was left with some fault
-abbrev pub LeftInSome : (reader writer : Change) → Type 0
-LeftInSome reader writer = (fault : ServeFault) × LeftBeside fault reader writer
-
--- What a fault leaves of such a stream, where there is a session. It is told of the stream where no seat was missing in the end.
+-- What a fault leaves of such a stream, where there is a session. A thread that could not be started leaves nothing done.
 abbrev pub StreamLeft : Program → DebugFault → (reader writer : Change) → Type 0
 StreamLeft program Source reader writer = ⊥
 StreamLeft program (Open error) reader writer = ⊥
 StreamLeft program (Serve Read) reader writer = LeftSettled program Read reader writer
 StreamLeft program (Serve Write) reader writer = LeftSettled program Write reader writer
 StreamLeft program (Serve Memory) reader writer = NothingDone reader writer ⊎ LeftSettled program Memory reader writer
-StreamLeft program Threads reader writer = NothingDone reader writer ⊎ (ServedBeside reader writer ⊎ LeftInSome reader writer)
+StreamLeft program Threads reader writer = NothingDone reader writer
 
--- its fault names the device that failed, if one did; where seats were missing in the end, either may have failed
+-- its fault names the device that failed, if one did
 abbrev pub BlamesStream : DebugFault → (reader writer : Change) → Type 0
 BlamesStream Source reader writer = ⊥
 BlamesStream (Open error) reader writer = ⊥
 BlamesStream (Serve fault) reader writer = Blames fault reader writer
-BlamesStream Threads reader writer = (NeverFails reader × NeverFails writer) ⊎ ((fault : ServeFault) × Blames fault reader writer)
-
--- the fault names the device that failed, if one did
-abbrev pub BlamesBeside : DebugFault → (source reader writer : Change) → Type 0
-BlamesBeside Source source reader writer = BlamesDevice Source source reader writer
-BlamesBeside (Open error) source reader writer = BlamesDevice (Open error) source reader writer
-BlamesBeside (Serve fault) source reader writer = BlamesDevice (Serve fault) source reader writer
-BlamesBeside Threads source reader writer = NeverFails source × BlamesStream Threads reader writer
+BlamesStream Threads reader writer = NeverFails reader × NeverFails writer
 
 -- how a stream of a desk ended
 abbrev pub Streamed : {A : Type 0} → (old new : Asker) → Result A ServeFault → (reader writer : Change) → Type 0
@@ -88,17 +77,19 @@ Streamed old new result reader writer = StreamEnds of_desk old new result reader
 abbrev pub IsStill : Change → Type 0
 IsStill device = device.new ≡ device.old
 
--- how a stream ended, which is begun where all workers have started, and only there
-abbrev pub StreamedIf : {A : Type 0} → (started : Bool) → (old new : Asker) → Option (Result A ServeFault) → (reader writer : Change)
-    → Type 0
-StreamedIf started old new (Some served) reader writer = (started ≡ true) × Streamed old new served reader writer
-StreamedIf started old new None reader writer = (started ≡ false) × (IsStill reader × IsStill writer)
-
--- what is told of a stream and of the end of the sharing: the stream's fault only where that has settled
+-- what is told once the sharing has settled: the stream's fault, if it had one
 abbrev pub EndedWith : {A E : Type 0} → Result E ServeFault → (settled : Type 0) → Result A DebugFault → Type 0
-EndedWith (Err fault) settled result =
-    IfErr result (λ told. ((told ≡ Serve fault) × settled) ⊎ (told ≡ Threads)) × OnOk result ⊥
-EndedWith (Ok v) settled result = OnOk result settled × IfErr result (λ told. told ≡ Threads)
+EndedWith (Ok v) settled result = settled × OnErr result ⊥
+EndedWith (Err fault) settled result = settled × (OnOk result ⊥ × IfErr result (λ told. told ≡ Serve fault))
+
+-- the numbers of workers among the askers
+abbrev pub numbers_of : List Staff → List ℕ
+numbers_of workers = map (λ w. w.seat.number) workers
+
+-- the workers' numbers follow each other, from this one on
+abbrev pub AreFrom : ℕ → List Staff → Type 0
+AreFrom number [] = Unit {0}
+AreFrom number (w ∷ ws) = (w.seat.number ≡ number) × AreFrom (suc number) ws
 
 -- how a session beside workers ended
 abbrev pub BesideEnds : {A : Type 0} → Program → Result A DebugFault → (reader writer : Change) → Type 0

@@ -49,11 +49,3 @@ SearchLeft Script source script = NeverFails source × Fails script
 SearchLeft (Survey (Open error)) source script = IsRefused source script (Open error)
 SearchLeft (Survey (Line number)) source script = IsRefused source script (Line number)
 SearchLeft (Survey Memory) source script = NeverFails source
-
--- the same where not all was read
-abbrev pub ReadingLeft : SearchFault → (source script : Change) → Type 0
-ReadingLeft Source source script = Fails source
-ReadingLeft Script source script = NeverFails source × Fails script
-ReadingLeft (Survey (Open error)) source script = ⊥
-ReadingLeft (Survey (Line number)) source script = ⊥
-ReadingLeft (Survey Memory) source script = NeverFails source

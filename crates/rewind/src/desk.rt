@@ -1,5 +1,5 @@
 //! A stream of commands of a desk, and its replies.
-ghost use Rattle.std.specs.Prelude.{OnOk, IfErr};
+ghost use Rattle.std.specs.Prelude.{◌≡◌, OnOk, IfErr};
 ghost use Rattle.gr_lines.specs.Devices.{change, NeverFails};
 ghost use Rattle.gr_serve.specs.Fault.{Blames};
 ghost use Rattle.rewind.specs.DeskStreams.{Serves, Leaves};
@@ -30,10 +30,10 @@ impl<'a, B: Room, T: Wait> Client for SharedDesk<'a, B, T> {
 
     ghost state = { λ c. c.desk.now };
 
-    // The reference to the desk.
-    ghost Fixed = { ℕ };
+    // The reference to the desk, and the desk's number.
+    ghost Fixed = { ℕ × ℕ };
 
-    ghost fixed = { λ c. c.desk.ghost_name };
+    ghost fixed = { λ c. (c.desk.ghost_name, c.desk.now.number) };
 
     ghost may_ask = { λ _. Unit {0} };
 
@@ -61,6 +61,7 @@ pub fn serve_desk<B: Room, T: Wait, R: BufRead, W: Write>(
         (change R.remaining reader.old reader.new) (change W.contents writer.old writer.new)) }
     ensures err { IfErr result (λ fault. Leaves fault desk.old desk.new
         (change R.remaining reader.old reader.new) (change W.contents writer.old writer.new)) }
+    ensures number { desk.new.number ≡ desk.old.number }
     ensures reads { OnOk result (NeverFails (change R.remaining reader.old reader.new)) }
     ensures writes { OnOk result (NeverFails (change W.contents writer.old writer.new)) }
     ensures blames { IfErr result (λ fault.

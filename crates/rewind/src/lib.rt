@@ -3,7 +3,7 @@
 
 pub mod desk;
 pub mod searching;
-mod started;
+mod threads;
 pub mod workers;
 
 pub use gr_base::print_step;

@@ -3,7 +3,7 @@
 ghost use Rattle.std.specs.Prelude.{◌≡◌, [], length, IfOk, IfErr, OnOk, OnErr, IsErrOf};
 ghost use Rattle.std.specs.Io.KnownBytes.{Consumes, IsAtEnd};
 ghost use Rattle.gr_lines.specs.Devices.{change, device_of, Fails, NeverFails};
-ghost use Rattle.rewind.specs.Searching.{BlamedBy, Searched, SearchLeft, ReadBoth, ReadingLeft};
+ghost use Rattle.rewind.specs.Searching.{BlamedBy, Searched, SearchLeft, ReadBoth};
 
 use gr_lines::counted::{Counted, LineError};
 use gr_serve::debug::read_source;
@@ -63,7 +63,7 @@ fn read_both<S: Read, R: Read>(
     requires commands { length commands.old.items ≡ 0 }
     ensures ok { OnOk result (ReadBoth (change S.remaining source.old source.new) (change R.remaining script.old script.new)
         program.new.items commands.new.items) }
-    ensures err { IfErr result (λ fault. ReadingLeft fault (change S.remaining source.old source.new)
+    ensures err { IfErr result (λ fault. SearchLeft fault (change S.remaining source.old source.new)
         (change R.remaining script.old script.new)) }
 {
     match read_source(source, program) {

@@ -1,37 +1,27 @@
 //! A session beside workers, from its source to its last reply.
-ghost use Rattle.std.specs.Prelude.{◌≡◌, ◌==◌, ◌<◌, ◌≤◌, [], ◌∷◌, ◌++◌, length, vec_len, vec_capacity, Bool};
-ghost use Rattle.std.specs.Prelude.{OnOk, IfOk, IfErr, IfSome, IfNone, IsTrue};
+ghost use Rattle.std.specs.Prelude.{◌≡◌, ◌+◌, ◌≤◌, [], ◌∷◌, ◌++◌, length, vec_len, vec_capacity};
+ghost use Rattle.std.specs.Prelude.{OnOk, IfOk, IfErr, IfSome, IfNone};
 ghost use Rattle.gr_program.specs.Views.{program_of};
 ghost use Rattle.gr_lines.specs.Devices.{change};
-ghost use Rattle.rewind.specs.Beside.{Settled, Streamed, EndedWith, BesideEnds, BlamesBeside, DebuggedBeside, BesideLeft, StreamedIf, IsStill};
+ghost use Rattle.gr_serve.specs.Debug.{BlamesDevice};
+ghost use Rattle.gr_share.specs.Seats.{AreAll};
+ghost use Rattle.rewind.specs.Beside.{AreFrom, numbers_of, Settled, Streamed, EndedWith, BesideEnds, DebuggedBeside, BesideLeft, IsStill};
 
 use crate::desk::serve_desk;
-use crate::started::Started;
+use crate::threads::{Task, beside};
 use gr_base::NoMemory;
 use gr_lines::counted::Counted;
 use gr_serve::debug::{DebugFault, open_source};
 use gr_serve::stream::ServeFault;
-use gr_share::{Desk, Open, Opened, Room, Shared, Worker, finish, worker};
+use gr_share::{Desk, Opened, Room, Shared, Worker, finish};
 use std::alloc::Global;
 use std::io::{BufRead, Read, Write};
 use std::marker::Brand;
+use std::mem;
 use std::sync::Wait;
 use std::thread::Threads;
-use std::{mem, thread};
 
 const MEMORY: DebugFault = DebugFault::Serve(ServeFault::Memory);
-
-// What is done beside the workers, where they have started. A contract says nothing of references that a closure captured. So
-// the closure holds a task, and returns it.
-trait Task {
-    type Output;
-
-    // What comes of it, where all workers have started, and where not.
-    ghost gives: { Self → Bool → Self.Output → Type 0 };
-
-    fn run(self, started: bool) -> Self::Output
-        ensures { gives self started result };
-}
 
 // A desk, with the devices of its stream.
 #[derive(Drop)]
@@ -47,27 +37,26 @@ struct Stream<'a, 'r, 'w, B: Room, T, R, W> {
 impl<'a, 'r, 'w, B: Room, T: Wait, R: BufRead, W: Write> Task for Stream<'a, 'r, 'w, B, T, R, W> {
     ghost use Rattle.std.specs.Prelude.{◌≡◌};
     ghost use Rattle.gr_lines.specs.Devices.{change};
-    ghost use Rattle.rewind.specs.Beside.{StreamedIf};
+    ghost use Rattle.rewind.specs.Beside.{Streamed};
 
     type Output = (
         Desk<B>,
         &'r mut Counted<R>,
         &'w mut Counted<W>,
-        Option<Result<(), ServeFault>>,
+        Result<(), ServeFault>,
     );
 
-    ghost gives = { λ s started r. (r.1.ghost_name ≡ s.reader.ghost_name) × (r.2.ghost_name ≡ s.writer.ghost_name)
-        × StreamedIf started s.desk r.0 r.3
-        (change R.remaining s.reader.now r.1.now) (change W.contents s.writer.now r.2.now) };
+    ghost gives = { λ s r. (r.1.ghost_name ≡ s.reader.ghost_name) × (r.2.ghost_name ≡ s.writer.ghost_name)
+        × (r.0.number ≡ s.desk.number)
+        × Streamed s.desk r.0 r.3 (change R.remaining s.reader.now r.1.now) (change W.contents s.writer.now r.2.now) };
 
     fn run(
         self,
-        started: bool,
     ) -> (
         Desk<B>,
         &'r mut Counted<R>,
         &'w mut Counted<W>,
-        Option<Result<(), ServeFault>>,
+        Result<(), ServeFault>,
     ) {
         let Stream {
             rt,
@@ -77,28 +66,25 @@ impl<'a, 'r, 'w, B: Room, T: Wait, R: BufRead, W: Write> Task for Stream<'a, 'r,
             reader,
             writer,
         } = self;
-        let served = serve_if(rt, alloc, shared, started, &mut desk, reader, writer);
+        let served = serve(rt, alloc, shared, &mut desk, reader, writer);
         (desk, reader, writer, served)
     }
-}
 
-/// Serves a desk, if the workers have started.
-fn serve_if<B: Room, T: Wait, R: BufRead, W: Write>(
-    rt: &T,
-    alloc: Global,
-    shared: &Shared<B>,
-    started: bool,
-    desk: &mut Desk<B>,
-    reader: &mut Counted<R>,
-    writer: &mut Counted<W>,
-) -> Option<Result<(), ServeFault>>
-    ensures { StreamedIf started desk.old desk.new result
-        (change R.remaining reader.old reader.new) (change W.contents writer.old writer.new) }
-{
-    if started {
-        Some(serve(rt, alloc, shared, desk, reader, writer))
-    } else {
-        None
+    type Left = (&'r mut Counted<R>, &'w mut Counted<W>);
+
+    ghost leaves = { λ s r. (r.0.ghost_name ≡ s.reader.ghost_name) × (r.1.ghost_name ≡ s.writer.ghost_name)
+        × (r.0.now ≡ s.reader.now) × (r.1.now ≡ s.writer.now) };
+
+    fn leave(self) -> (&'r mut Counted<R>, &'w mut Counted<W>) {
+        let Stream {
+            rt: _,
+            alloc: _,
+            shared: _,
+            desk: _,
+            reader,
+            writer,
+        } = self;
+        (reader, writer)
     }
 }
 
@@ -111,8 +97,9 @@ fn serve<B: Room, T: Wait, R: BufRead, W: Write>(
     reader: &mut Counted<R>,
     writer: &mut Counted<W>,
 ) -> Result<(), ServeFault>
-    ensures { Streamed desk.old desk.new result
+    ensures stream { Streamed desk.old desk.new result
         (change R.remaining reader.old reader.new) (change W.contents writer.old writer.new) }
+    ensures number { desk.new.number ≡ desk.old.number }
 {
     match serve_desk(rt, alloc, shared, desk, reader, writer) {
         Ok(()) => Ok(()),
@@ -125,62 +112,37 @@ fn reclaim<T>(lent: &mut T)
     ensures { lent.new ≡ lent.old }
 {}
 
-/// Seats for this many workers.
-fn seats<B: Room, T: Wait>(
+/// The first seat, for a desk.
+fn desk_seat<B: Room, T: Wait>(
     rt: &T,
     alloc: Global,
     shared: &Shared<B>,
-    count: u32,
-) -> Result<Vec<Worker<B>>, NoMemory>
-    ensures { IfOk result (λ workers. length workers.items ≡ count) }
+) -> Result<Desk<B>, NoMemory>
+    ensures { IfOk result (λ desk. (desk.calls ≡ []) × (desk.number ≡ 1)) }
 {
-    let mut workers = Vec::new(alloc);
-    for _ in 0..count {
-        let Ok(seat) = shared.worker_seat(rt, alloc) else {
-            return Err(NoMemory);
-        };
-        workers.push(seat)?;
+    match shared.desk(rt, alloc) {
+        Ok(desk) if desk.number() == 1 => Ok(desk),
+        _ => Err(NoMemory),
     }
-    Ok(workers)
 }
 
-/// Does the task while the workers work, each on a thread of its own. Then it tells them to end, and waits for them. The task
-/// learns whether all of them could be started. The answer is what came of the task, and how many were started.
-#[tactic(auto, using(crate::proofs::Lent::session_send))]
-fn beside<B: Room + Send + Sync, T: Threads + Wait + Sync, J: Task + Drop>(
+/// The further seats, for workers. Nobody else has been given one, so the numbers follow each other.
+fn worker_seats<B: Room, T: Wait>(
     rt: &T,
     alloc: Global,
     shared: &Shared<B>,
-    workers: &mut [Worker<B>],
-    task: J,
-) -> (J::Output, Started)
-    ensures { J.gives task (result.1 == length workers.old) result.0 }
+    seats: u32,
+) -> Result<Vec<Worker<B>>, NoMemory>
+    ensures { IfOk result (λ workers. AreFrom 2 workers.items × (seats ≤ 1 + length workers.items)) }
 {
-    let wanted = workers.len();
-    thread::scope(
-        thread::scope_env(),
-        rt,
-        move |scope| -> (J::Output, Started)
-            ensures { J.gives task (result.1 == wanted) result.0 }
-        {
-            let mut started = Started::none();
-            for me in workers.iter_mut() {
-                if let Ok(thread) = scope.spawn(move || worker(
-                    rt,
-                    alloc,
-                    shared,
-                    me,
-                    &Open,
-                    u64::MAX,
-                )) {
-                    started.add(thread);
-                }
-            }
-            let done = task.run(started.count() == wanted);
-            shared.close(rt);
-            (done, started)
-        },
-    )
+    let mut workers = Vec::new(alloc);
+    for number in 1..seats {
+        match shared.worker_seat(rt, alloc) {
+            Ok(seat) if seat.number() == number + 1 => workers.push(seat)?,
+            _ => return Err(NoMemory),
+        }
+    }
+    Ok(workers)
 }
 
 /// Serves a desk beside the workers. Where a thread could not be started, nothing was read or written.
@@ -188,13 +150,14 @@ fn serve_among<B: Room + Send + Sync, T: Threads + Wait + Sync, R: BufRead, W: W
     rt: &T,
     alloc: Global,
     shared: &Shared<B>,
-    workers: &mut [Worker<B>],
+    workers: Vec<Worker<B>>,
     desk: Desk<B>,
     reader: &mut Counted<R>,
     writer: &mut Counted<W>,
-) -> Option<(Desk<B>, Result<(), ServeFault>)>
-    ensures served { IfSome result (λ r. Streamed desk r.0 r.1
+) -> Option<(Desk<B>, Vec<Worker<B>>, Result<(), ServeFault>)>
+    ensures served { IfSome result (λ r. Streamed desk r.0 r.2
         (change R.remaining reader.old reader.new) (change W.contents writer.old writer.new)) }
+    ensures seats { IfSome result (λ r. (r.0.number ≡ desk.number) × (numbers_of r.1.items ≡ numbers_of workers.items)) }
     ensures none { IfNone result (IsStill (change R.remaining reader.old reader.new)
         × IsStill (change W.contents writer.old writer.new)) }
 {
@@ -206,13 +169,18 @@ fn serve_among<B: Room + Send + Sync, T: Threads + Wait + Sync, R: BufRead, W: W
         reader,
         writer,
     };
-    let (streamed, _) = beside(rt, alloc, shared, workers, stream);
-    let (desk, reader, writer, served) = streamed;
-    reclaim(reader);
-    reclaim(writer);
-    match served {
-        Some(served) => Some((desk, served)),
-        None => None,
+    match beside(rt, alloc, shared, workers, stream) {
+        Ok((streamed, workers)) => {
+            let (desk, reader, writer, served) = streamed;
+            reclaim(reader);
+            reclaim(writer);
+            Some((desk, workers, served))
+        }
+        Err((reader, writer)) => {
+            reclaim(reader);
+            reclaim(writer);
+            None
+        }
     }
 }
 
@@ -228,74 +196,70 @@ fn room_for_desk<B: Room>(alloc: Global) -> Result<Vec<Desk<B>>, NoMemory>
     }
 }
 
-/// Ends the sharing. Whether all seats were there: then each desk's entries are its calls. The session's memory is not given
-/// back: this is the last thing that a program does.
-fn settle<B: Room>(shared: Shared<B>, desks: Vec<Desk<B>>, workers: Vec<Worker<B>>) -> bool
-    requires { shared.first ≡ 0 }
-    ensures { IsTrue result → Settled B.program desks.items }
+/// Ends the sharing, where no seat is missing: then each desk's entries are its calls. The session's memory is not given back: this
+/// is the last thing that a program does.
+fn settle<B: Room>(shared: Shared<B>, desks: Vec<Desk<B>>, workers: Vec<Worker<B>>)
+    requires first { shared.first ≡ 0 }
+    requires all { AreAll 0 B.last desks.items workers.items }
+    ensures { Settled B.program desks.items }
 {
     match finish(shared, desks, workers) {
         Ok(finished) => {
             let _ = finished.session.journal();
             mem::forget(finished);
-            true
         }
-        Err(unfinished) => {
-            mem::forget(unfinished);
-            false
-        }
+        Err(_) => unreachable!(),
     }
 }
 
-/// Ends the sharing once a stream was served. The stream's fault is told only where no seat was missing.
+/// Ends the sharing once a stream was served, and tells the stream's fault.
 fn ended<B: Room>(
     shared: Shared<B>,
     desks: Vec<Desk<B>>,
     workers: Vec<Worker<B>>,
     served: Result<(), ServeFault>,
 ) -> Result<(), DebugFault>
-    requires { shared.first ≡ 0 }
+    requires first { shared.first ≡ 0 }
+    requires all { AreAll 0 B.last desks.items workers.items }
     ensures { EndedWith served (Settled B.program desks.items) result }
 {
-    if !settle(shared, desks, workers) {
-        return Err(DebugFault::Threads);
-    }
+    settle(shared, desks, workers);
     match served {
         Ok(()) => Ok(()),
         Err(fault) => Err(DebugFault::Serve(fault)),
     }
 }
 
-/// Serves one desk of the session, beside this many workers. In the end the workers are told to end and waited for, and the
-/// session is shared no more.
+/// Serves one desk of the session, beside workers that take the other seats. In the end the workers are told to end and waited for,
+/// and the session is shared no more.
 fn serve_beside<B: Room + Send + Sync, T: Threads + Wait + Sync, R: BufRead, W: Write>(
     rt: &T,
     alloc: Global,
     opened: Opened,
-    count: u32,
+    seats: u32,
     reader: &mut Counted<R>,
     writer: &mut Counted<W>,
 ) -> Result<(), DebugFault>
     requires table { opened.table ≡ B.table }
     requires session { (program_of opened.session.program ≡ B.program) × (opened.session.askers ≡ B.first) }
     requires before { opened.session.journal ≡ B.before }
+    requires seats { B.last ≡ B.first + seats }
     requires fresh { opened.session.askers ≡ 0 }
     ensures { BesideEnds B.program result
         (change R.remaining reader.old reader.new) (change W.contents writer.old writer.new) }
 {
-    let shared = Shared::<B>::new(opened);
-    let Ok(desk) = shared.desk(rt, alloc) else {
+    let shared = Shared::<B>::new(opened, seats);
+    let Ok(desk) = desk_seat(rt, alloc, &shared) else {
         return Err(MEMORY);
     };
     let Ok(mut desks) = room_for_desk(alloc) else {
         return Err(MEMORY);
     };
-    let Ok(mut workers) = seats(rt, alloc, &shared, count) else {
+    let Ok(workers) = worker_seats(rt, alloc, &shared, seats) else {
         return Err(MEMORY);
     };
-    let among = workers.as_mut_slice();
-    match serve_among(rt, alloc, &shared, among, desk, reader, writer) {
-        Some((desk, served)) => {
+    match serve_among(rt, alloc, &shared, workers, desk, reader, writer) {
+        Some((desk, workers, served)) => {
             desks.push_reserved(desk);
             ended(shared, desks, workers, served)
         }
@@ -311,8 +275,7 @@ fn serve_beside<B: Room + Send + Sync, T: Threads + Wait + Sync, R: BufRead, W: 
 /// order. All other entries are turns and batches of the workers. That holds after `Read`, `Write` and `Memory`, too, for the
 /// commands that were answered.
 ///
-/// `Threads` means one of two things. Either a thread could not be started, and no command was read; or seats were missing in
-/// the end, whether or not all lines were served. The other faults mean what they mean in `debug`.
+/// `Threads` means that a thread could not be started, and no command was read. The other faults mean what they mean in `debug`.
 pub fn debug_beside<S: Read, R: BufRead, W: Write, T: Threads + Wait + Sync>(
     rt: &T,
     alloc: Global,
@@ -325,7 +288,7 @@ pub fn debug_beside<S: Read, R: BufRead, W: Write, T: Threads + Wait + Sync>(
         (change R.remaining reader.old reader.new) (change W.contents writer.old writer.new)) }
     ensures err { IfErr result (λ fault. BesideLeft fault (change S.remaining source.old source.new)
         (change R.remaining reader.old reader.new) (change W.contents writer.old writer.new)) }
-    ensures blames { IfErr result (λ fault. BlamesBeside fault (change S.remaining source.old source.new)
+    ensures blames { IfErr result (λ fault. BlamesDevice fault (change S.remaining source.old source.new)
         (change R.remaining reader.old reader.new) (change W.contents writer.old writer.new)) }
 {
     let session = match open_source(alloc, source) {
@@ -335,5 +298,6 @@ pub fn debug_beside<S: Read, R: BufRead, W: Write, T: Threads + Wait + Sync>(
     let Ok(opened) = Opened::new(alloc, session) else {
         return Err(MEMORY);
     };
-    serve_beside::<Brand, T, R, W>(rt, alloc, opened, workers, reader, writer)
+    let seats = workers.saturating_add(1);
+    serve_beside::<Brand, T, R, W>(rt, alloc, opened, seats, reader, writer)
 }

@@ -1,5 +1,5 @@
 //! Scenes: desks and workers call a session at once, until all of them end, and the sharing ends.
-ghost use Rattle.std.specs.Prelude.{◌≡◌};
+ghost use Rattle.std.specs.Prelude.{◌≡◌, ◌+◌};
 ghost use Rattle.gr_program.specs.Views.{program_of};
 
 use crate::callers::{Caller, Errand, call_at_once, reply};
@@ -192,8 +192,9 @@ fn play_in<B: Room + Send + Sync, T: Threads + Wait + Clock + Abort + Sync>(
     requires table { opened.table ≡ B.table }
     requires session { (program_of opened.session.program ≡ B.program) × (opened.session.askers ≡ B.first) }
     requires before { opened.session.journal ≡ B.before }
+    requires seats { B.last ≡ B.first + 1000 }
 {
-    let shared = Shared::<B>::new(opened);
+    let shared = Shared::<B>::new(opened, 1000);
     let mut opener = shared.desk(rt, alloc).expect(rt, "a desk");
     for line in scene.first {
         reply(rt, alloc, &shared, &mut opener, line);

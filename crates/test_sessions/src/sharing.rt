@@ -1,6 +1,6 @@
 //! Desks and workers on threads. Calls succeed, all entries stay, and workers take steps and are in batches at the same time.
 //! A batch whose goroutine changed is refused. Each scene shows that no sharing ends while a seat is missing.
-ghost use Rattle.std.specs.Prelude.{◌≡◌};
+ghost use Rattle.std.specs.Prelude.{◌≡◌, ◌+◌};
 ghost use Rattle.gr_program.specs.Views.{program_of};
 
 use crate::batching::{SPINNING, STARTED};
@@ -210,8 +210,9 @@ fn seats_given<B: Room, T: Wait + Abort>(rt: &T, alloc: Global, opened: Opened)
     requires table { opened.table ≡ B.table }
     requires session { (program_of opened.session.program ≡ B.program) × (opened.session.askers ≡ B.first) }
     requires before { opened.session.journal ≡ B.before }
+    requires seats { B.last ≡ B.first + 1001 }
 {
-    let shared = Shared::<B>::new(opened);
+    let shared = Shared::<B>::new(opened, 1001);
     for _ in 0..500u64 {
         shared.desk(rt, alloc).expect(rt, "a desk");
         shared.worker_seat(rt, alloc).expect(rt, "a worker's seat");

@@ -1,4 +1,5 @@
-use Rattle.gr_command.proofs.Naming.{later_named, on_err}
+use Rattle.gr_command.proofs.Errors.{on_err}
+use Rattle.gr_command.proofs.Naming.{later_named}
 use Rattle.gr_command.proofs.request.earlier.Goals as goal
 
 pub returns-in_err-viewed-clause-needed : goal.returns-in_err-viewed-clause-needed

@@ -1,3 +1,4 @@
+use Rattle.std.proofs.Common.{◌+◌}
 use Rattle.gr_program.specs.Views.{program_of}
 use Rattle.rewind.proofs.workers.debug_beside.Given as goal
 
@@ -7,5 +8,6 @@ ghosts-serve_beside g a = record {
   table = a.opened.table;
   program = program_of a.opened.session.program;
   first = a.opened.session.askers;
+  last = a.opened.session.askers + a.seats;
   before = a.opened.session.journal;
 }

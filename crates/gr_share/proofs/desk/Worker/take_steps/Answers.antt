@@ -5,8 +5,8 @@ use Rattle.gr_session.specs.declared.journal.Receipt.{Receipt}
 use Rattle.gr_share.specs.declared.desk.Asked.TheVariants.{Batch}
 use Rattle.gr_share.specs.Calls.{Asker, Staff}
 use Rattle.gr_share.specs.Works.{WasLent}
-use Rattle.gr_share.specs.Finding.{WorksOnce, CommitsUpTo}
-use Rattle.gr_share.proofs.Calling.{rested, called, not_cut, few_gained, few_rested, at_work}
+use Rattle.gr_share.specs.Finding.{WorksOnce}
+use Rattle.gr_share.proofs.Calling.{rested, called, not_cut, at_work}
 use Rattle.gr_share.proofs.desk.Worker.take_steps.Goals.{in-Ok-commit, in-Err}
 use Rattle.gr_share.proofs.desk.Worker.take_steps.Goals as goal
 
@@ -45,13 +45,3 @@ invariant_of-self g c =
     let here = ap (λ (s : Staff). s.place) c.self.view_is in
     at_work p c.self.inside.place c.match-commit.result c.self.inside.seat c.commit.new.self c.self.invariant
     (subst (λ place. WorksOnce p place c.match-commit.result c.self.inside.seat c.commit.new.self) (sym here) (works g c))
-
-pub returns-clause-few : goal.returns-clause-few
-returns-clause-few g c =
-    let loan = loan_of c.in-Ok.batch in
-    subst (λ (s : Staff). CommitsUpTo c.args.limit s.seat c.commit.new.self) c.self.view_is
-    (elim c.match-commit.branch [
-      | in-Ok-commit w ↦ few_gained c.args.limit c.self.inside.seat c.commit.new.self loan.name loan.steps w.in-Ok-commit.ensures.call c.in-Ok.ensures.few
-      | in-Err w ↦
-          few_rested c.args.limit g.B.Room.program c.args.self.now.place c.match-commit.result w.in-Err.field-0 c.self.inside.seat c.commit.new.self w.in-Err.ensures.err
-    ])

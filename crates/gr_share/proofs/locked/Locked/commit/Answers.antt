@@ -36,6 +36,7 @@ invariant_of-self-in-Ok g c =
       ap (λ (p : Program). program_of p) c.in-Ok.ensures.others.0 ∙ i.3,
       omega (arith, i.4, c.in-Ok.ensures.others.1),
       begins_on g.B.Room.before s c.args.number call t.journal i.5 entered,
+      omega (arith, i.6, c.in-Ok.ensures.others.1),
     )
 
 pub returns-in-Ok-clause-rises : goal.returns-in-Ok-clause-rises

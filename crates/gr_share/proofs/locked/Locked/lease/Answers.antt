@@ -7,7 +7,7 @@ use Rattle.gr_session.specs.Entries.{InItsWorld}
 use Rattle.gr_session.specs.Granting.{IsLoan, CanLend}
 use Rattle.gr_share.specs.Seats.{Held}
 use Rattle.gr_share.specs.Works.{Lends}
-use Rattle.gr_share.proofs.Answering.{on_err}
+use Rattle.gr_command.proofs.Errors.{on_err}
 use Rattle.gr_share.proofs.Lending.{lends}
 use Rattle.gr_share.proofs.locked.Locked.lease.Goals as goal
 
