@@ -11,6 +11,13 @@ interface Tail { isOk: boolean; count: number; lines: string[]; last?: string }
 interface Listed { isOk: boolean; count: number; spans: Map<string, number[]>; last: string }
 interface LogColumns { isOk: boolean; names: string[]; kinds: string[]; of: Int32Array; kindOf: Int32Array }
 
+// What the program tells of a kept step, as docs/PROTOCOL.md has it.
+interface About {
+  id: string; kind: string; at: {function: string; line: number} | null; channel: {name: string; operation: string} | null;
+  given: string[]; made: string | null; prints: boolean; reached: string[]; sources: Source[];
+}
+interface Source { object: string; of: string; slot: number | null; step: string | null; wrote: boolean }
+
 interface Step { id: string; goroutine: string; number: number; kind: string; row: number }
 interface Edge { from: string; to: string; kind: string }
 interface Note {

@@ -4,24 +4,26 @@ import { spawn } from "node:child_process";
 import { mkdtempSync, rmSync, writeFileSync } from "node:fs";
 import { tmpdir } from "node:os";
 import { join } from "node:path";
-import { shaped } from "../src/engine/shapes.js";
+import { shaped, shapedAnswers } from "../src/engine/shapes.js";
 
 const folder = mkdtempSync(join(tmpdir(), "rewind-faces-"));
 process.on("exit", () => rmSync(folder, { recursive: true, force: true }));
 const QUIET = "clear 4294967295"; // a command whose reply tells that those before it are answered
 let count = 0;
 
-/** @typedef {{id: number, source: Uint8Array, commands: string[], shape: string}} Asked */
+/** @typedef {{id: number, source: Uint8Array, isClient: boolean, commands: string[], shape: string}} Asked */
 
 class NativeSession {
   /**
    * @param {string} program
    * @param {Uint8Array} source
+   * @param {boolean} isClient
    */
-  constructor(program, source) {
+  constructor(program, source, isClient) {
     const path = join(folder, `${++count}.go`);
     writeFileSync(path, source);
-    this.child = spawn(program, [path], { stdio: ["pipe", "pipe", "pipe"] });
+    this.isClient = isClient;
+    this.child = spawn(program, isClient ? ["--json", path] : [path], { stdio: ["pipe", "pipe", "pipe"] });
     this.text = "";
     this.errors = "";
     /** @type {number | null} */
@@ -50,6 +52,15 @@ class NativeSession {
     return this.text;
   }
 
+  /**
+   * @param {string[]} commands
+   * @param {string} shape
+   */
+  async shaped(commands, shape) {
+    const text = await this.ask(commands);
+    return this.isClient ? shapedAnswers(text, shape) : shaped(text, shape);
+  }
+
   replies() {
     return this.text.endsWith("\n") ? (this.text.match(/^(?!\|).+$/gm) || []).length : 0;
   }
@@ -73,14 +84,14 @@ export function workersOf(program) {
     }
 
     /** @param {Asked} asked */
-    async answer({ id, source, commands, shape }) {
+    async answer({ id, source, isClient, commands, shape }) {
       /** @type {any[]} */
       let answers = [];
       if (!this.session) {
-        this.session = new NativeSession(program, source);
+        this.session = new NativeSession(program, source, isClient);
         await Promise.race([this.session.ended, this.session.ask([QUIET])]);
       } else {
-        answers = shaped(await this.session.ask(commands), shape);
+        answers = await this.session.shaped(commands, shape);
       }
       const { status, errors } = this.session;
       this.onmessage({ data: { id, answers, status, errors, fault: "" } });

@@ -10,7 +10,8 @@ const WORDS = 4; // that of the words of the command line, each with a nul behin
 const SOURCE = 5; // that of the source file
 const NO_SUCH_FILE = -2;
 const FILE = "program.go";
-const DEBUG = ["rewind", FILE];
+export const DEBUG = ["rewind", FILE];
+export const CLIENT = ["rewind", "--json", FILE]; // answers are told by the protocol of clients
 
 // What the program's `_exit` throws: the run is over, with this status.
 class Exit {
@@ -56,7 +57,7 @@ class Streams {
    * @param {Uint8Array} source
    * @param {string[]} words of the command line
    */
-  constructor(source, words = DEBUG) {
+  constructor(source, words) {
     this.source = source;
     this.words = encoder.encode(words.map((word) => `${word}\0`).join(""));
     /** @type {Uint8Array[]} */
@@ -158,10 +159,11 @@ class WaitingRun {
   /**
    * @param {WebAssembly.Module} program
    * @param {Uint8Array} source
+   * @param {string[]} words
    */
-  constructor(program, source) {
+  constructor(program, source, words) {
     this.program = program;
-    this.streams = new Streams(source);
+    this.streams = new Streams(source, words);
     this.wake = () => {};
     this.settle = () => {};
     /** @type {number | null} */
@@ -234,10 +236,12 @@ class RepeatedRun {
   /**
    * @param {WebAssembly.Module} program
    * @param {Uint8Array} source
+   * @param {string[]} words
    */
-  constructor(program, source) {
+  constructor(program, source, words) {
     this.program = program;
     this.source = source;
+    this.words = words;
     /** @type {Uint8Array[]} */
     this.kept = [];
     /** @type {number | null} */
@@ -252,7 +256,7 @@ class RepeatedRun {
 
   /** @param {Uint8Array} bytes */
   async exchange(bytes) {
-    const streams = new Streams(this.source);
+    const streams = new Streams(this.source, this.words);
     const pieces = [...this.kept, bytes].filter((piece) => piece.length);
     let before = bytes.length ? Infinity : 0;
     let waits = false;
@@ -331,9 +335,10 @@ export class Session {
    * @param {WebAssembly.Module} program
    * @param {Uint8Array} source
    * @param {boolean} suspends
+   * @param {string[]} words of the command line
    */
-  constructor(program, source, suspends) {
-    this.run = new (suspends ? WaitingRun : RepeatedRun)(program, source);
+  constructor(program, source, suspends, words) {
+    this.run = new (suspends ? WaitingRun : RepeatedRun)(program, source, words);
     this.turn = /** @type {Promise<unknown>} */ (Promise.resolve());
     this.said = "";
   }
@@ -342,8 +347,8 @@ export class Session {
    * @param {WebAssembly.Module} program
    * @param {Uint8Array} source
    */
-  static async open(program, source, suspends = canSuspend()) {
-    const session = new Session(program, source, suspends);
+  static async open(program, source, suspends = canSuspend(), words = DEBUG) {
+    const session = new Session(program, source, suspends, words);
     session.said = decoder.decode(await session.run.start());
     return session;
   }

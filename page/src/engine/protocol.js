@@ -1,10 +1,10 @@
-// Commands and replies, as docs/COMMANDS.md has them.
+// Commands and replies, as docs/COMMANDS.md has them, and the answers to clients, as docs/PROTOCOL.md has them.
 
 export const decoder = new TextDecoder();
 export const encoder = new TextEncoder();
 
 // The words of commands that only ask, and of those that may change which steps are kept.
-export const QUESTIONS = new Set(["deps", "causes", "show", "chan", "text", "console", "log"]);
+export const QUESTIONS = new Set(["deps", "causes", "show", "chan", "text", "console", "log", "about"]);
 export const CHANGES = new Set(["step", "undo", "back", "redo", "order", "run"]);
 
 /** @param {string} line */
@@ -29,6 +29,15 @@ export function parseReplies(text) {
     }
   }
   return replies;
+}
+
+const TEXT = '"text":';
+
+// The text of an answer to a client. It is the last member of the object: lists of steps before it may be long, and are not read.
+/** @param {string} line */
+export function textOf(line) {
+  const at = line.lastIndexOf(TEXT);
+  return at < 0 ? "" : /** @type {string} */ (JSON.parse(line.slice(at + TEXT.length, -1)));
 }
 
 // Names of steps.

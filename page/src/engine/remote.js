@@ -35,14 +35,14 @@ export class RemoteSession {
     this.worker.onerror = (event) => this.end(phrase("the worker of the session ended: {reason}", { reason: event.message }));
   }
 
-  // Opens a session on a source; where the source is refused, `errors` says why.
+  // Opens a session on a source; where the source is refused, `errors` says why. `isClient`: it answers queries beside commands.
   /**
    * @param {Machine} machine
    * @param {string} source
    */
-  static async open(machine, source) {
+  static async open(machine, source, isClient = false) {
     const session = new RemoteSession(machine);
-    await session.send({ program: machine.program, source: encoder.encode(source), suspends: machine.suspends }, 0);
+    await session.send({ program: machine.program, source: encoder.encode(source), suspends: machine.suspends, isClient }, 0);
     return session;
   }
 

@@ -1,7 +1,7 @@
 // What a worker hands on of the replies that it got, so that long texts are read beside the page.
 
 import { listsIn } from "./lists.js";
-import { parseReplies } from "./protocol.js";
+import { parseReplies, textOf } from "./protocol.js";
 
 const LINES = 1100; // of more lines the last are handed on: more than a goroutine has frames
 
@@ -38,8 +38,20 @@ const SHAPES = { replies: (reply) => reply, columns, tail };
 /**
  * @param {string} text
  * @param {string} shape
+ * @returns {any[]}
  */
 export function shaped(text, shape) {
   if (shape === "listed") return listsIn(text);
   return parseReplies(text).map(SHAPES[shape]);
+}
+
+// The answers to a client, in the shape that is asked for: `told` are the objects themselves, and the others come from their texts.
+/**
+ * @param {string} text
+ * @param {string} shape
+ * @returns {any[]}
+ */
+export function shapedAnswers(text, shape) {
+  const lines = text.split("\n").filter((line) => line);
+  return shape === "told" ? lines.map((line) => JSON.parse(line)) : shaped(lines.map(textOf).join(""), shape);
 }

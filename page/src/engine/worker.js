@@ -1,22 +1,24 @@
 // A worker that holds one session of the program: it opens it, and answers commands in the shape that is asked for. Or it runs the
 // program once, with other words.
 
-import { Session, wholeRun } from "./engine.js";
+import { CLIENT, DEBUG, Session, wholeRun } from "./engine.js";
 import { decoder, encoder } from "./protocol.js";
-import { shaped } from "./shapes.js";
+import { shaped, shapedAnswers } from "./shapes.js";
 
 /** @type {Session} */
 let session;
+let isClient = false; // whether the session answers by the protocol of clients
 
-/** @param {{program: WebAssembly.Module, source: Uint8Array, suspends: boolean}} given */
-async function open({ program, source, suspends }) {
-  session = await Session.open(program, source, suspends);
+/** @param {{program: WebAssembly.Module, source: Uint8Array, suspends: boolean, isClient: boolean}} given */
+async function open({ program, source, suspends, ...given }) {
+  isClient = given.isClient;
+  session = await Session.open(program, source, suspends, isClient ? CLIENT : DEBUG);
 }
 
 /** @param {{commands: string[], shape: string}} asked */
 async function answer({ commands, shape }) {
   const text = decoder.decode(await session.exchange(encoder.encode(commands.join("\n") + "\n")));
-  return shaped(text, shape);
+  return isClient ? shapedAnswers(text, shape) : shaped(text, shape);
 }
 
 self.addEventListener("message", async ({ data }) => {

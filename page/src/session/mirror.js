@@ -1,5 +1,5 @@
 // A second session that stands where the user's does and answers what the page asks, so that looking costs the user's session nothing.
-// It runs the expanded source, whose lines tell one statement from another.
+// It runs the expanded source, whose lines tell one statement from another, and speaks the protocol of clients (docs/PROTOCOL.md).
 
 import { RemoteSession, SessionGone, Unanswered } from "../engine/remote.js";
 import { readScene } from "./scene.js";
@@ -198,12 +198,6 @@ export class Mirror {
     }
   }
 
-  // The log, or nothing where this session does not stand where the user's does.
-  /** @returns {Promise<LogColumns | null>} */
-  readLog() {
-    return this.inTurn(async () => (this.isBehind ? null : (await this.session.questions(["log"], "columns"))[0])).catch(() => null);
-  }
-
   /** @returns {Promise<Scene>} */
   scene() {
     return this.answer((remote) => readScene(remote, this.log.names, this.log.channels, this.statements));
@@ -216,6 +210,16 @@ export class Mirror {
    */
   lists(commands) {
     return this.answer((remote) => remote.questions(commands, "listed"));
+  }
+
+  // What is told of the steps between two rows of the log. A portion has at most 1,000 rows.
+  /**
+   * @param {number} from
+   * @param {number} to
+   * @returns {Promise<About[]>}
+   */
+  about(from, to) {
+    return this.answer(async (remote) => (await remote.askAll([`about ${from + 1} ${to}`], "told"))[0].about);
   }
 
   // Whether no goroutine is ready: a run of one step is tried and undone.
@@ -265,9 +269,9 @@ const isLoss = (fault) => fault instanceof SessionGone || (fault instanceof Unan
  * @param {import("./statements.js").Statements} statements
  */
 export async function openExpanded(machine, statements) {
-  const remote = await RemoteSession.open(machine, statements.runText);
+  const remote = await RemoteSession.open(machine, statements.runText, true);
   if (remote.status === null || !statements.isExpanded) return remote;
   remote.close();
   statements.giveUp();
-  return RemoteSession.open(machine, statements.runText);
+  return RemoteSession.open(machine, statements.runText, true);
 }

@@ -2,8 +2,8 @@
 
 import assert from "node:assert/strict";
 import { test } from "node:test";
-import { compareNames, parseChannel, parseFault, parseGoroutine, parseReplies, parseWaiter } from "../../src/engine/protocol.js";
-import { shaped } from "../../src/engine/shapes.js";
+import { compareNames, parseChannel, parseFault, parseGoroutine, parseReplies, parseWaiter, textOf } from "../../src/engine/protocol.js";
+import { shaped, shapedAnswers } from "../../src/engine/shapes.js";
 
 test("a goroutine, and a refusal", () => {
   const [first, second] = parseReplies("| g0.2 waiting 3 line 5\n| transfer from=g0/c2 x=100\n| main\nok\nno N2\n");
@@ -41,4 +41,13 @@ test("a log as columns", () => {
   assert.deepEqual([log.names, log.kinds, [...log.of], [...log.kindOf]], [["g0", "g0.1"], ["make", "pick 2"], [0, 1, 0], [0, 1, 0]]);
   const [refused] = shaped("no Q1\n", "columns");
   assert.equal(refused.isOk, false, "a refused question is told from an empty answer");
+});
+
+test("the answers to a client", () => {
+  const stepped = '{"reply":{"answer":"stepped","id":"g0#1","kind":"make"},"text":"ok g0#1 make\\n"}';
+  const printed = '{"reply":{"answer":"lines","lines":["\\"text\\":"]},"text":"| \\"text\\":\\nok\\n"}';
+  const [first, second] = shapedAnswers(`${stepped}\n${printed}\n`, "replies");
+  assert.deepEqual([first.words, second.lines], [["ok", "g0#1", "make"], ['"text":']]);
+  assert.equal(textOf('{"error":"bad request","expected":"a command","text":"? bad command\\n"}'), "? bad command\n");
+  assert.deepEqual(shapedAnswers('{"about":[],"next":null}\n', "told"), [{ about: [], next: null }]);
 });
