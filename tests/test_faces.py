@@ -66,6 +66,7 @@ def of_faces(page: Said, shell: Said) -> list[str]:
     """Where page and shell differ."""
     why, standing = shell["why"], shell["standing"]
     faults = differs("the page's cycle", page["cycle"], "the shell's", shell["cycle"])
+    faults += [f"the page knows other causes of {step} than the program" for step in page["unlike"][:5]]
     if standing == "fault":
         place = re.match(r"(\S+) met it at line (\d+): .* \((\S+)\)$", why[1])
         is_told = place and f" in {place[3]} at line {place[2]}: " in page["state"]

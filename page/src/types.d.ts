@@ -21,8 +21,8 @@ interface Source { object: string; of: string; slot: number | null; step: string
 interface Step { id: string; goroutine: string; number: number; kind: string; row: number }
 interface Edge { from: string; to: string; kind: string }
 interface Note {
-  line: number; statement: Statement | null; frame: StackFrame; printed: string[]; woke: string[];
-  causes: Map<string, number> | null; edges: Edge[] | null; channels: string[];
+  line: number; statement: Statement | null; frame: StackFrame; printed: string[];
+  woke: string[]; channels: string[]; // the waits that it ended, and the channels that it worked on
   over: Operation; // what it does over a channel
   received: string; part: string; turn: number; // what it received, by which part of its statement, after so many others
   taken: string; cases: Operation[]; // the case that its select took, and those that it waits with

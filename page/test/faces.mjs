@@ -20,22 +20,31 @@ const machine = /** @type {any} */ ({ program: null, script: "", suspends: true 
 async function told({ source, commands }) {
   const session = await Session.open(machine, source);
   for (const command of commands) await session.perform(command);
-  const { follower, log, direct } = session;
+  const { follower, log, order } = session;
   await session.look();
   if (session.scene.isPartial) session.scene.isStuck = await session.mirror.isStuck();
   while (!(await follower.inTurn(() => follower.annotate(0, log.length))));
   const first = Math.max(0, log.length - LAST);
-  await follower.inTurn(() => direct.find(log.steps(first, log.length)));
+  await order.find(first, log.length);
   const standing = await standingOf(session, { go, faults });
   const state = new Words(/** @type {any} */ ({ codes: {}, kinds: {}, faults, go })).state(session, standing, (id) => follower.notes.get(id));
   const steps = log.steps(first, log.length).map(({ id }) => {
     const { line, over, received } = follower.notes.get(id) || {};
     return { id, line, value: over ? received || over.sent : "" };
   });
+  const causes = await session.mirror.lists(log.steps(first, log.length).map(({ id }) => `causes ${id}`));
+  const unlike = log.steps(first, log.length).filter(({ id }, at) => clockText(order.causes(id)) !== clockText(lastOf(causes[at]))).map(({ id }) => id);
   const waits = standing?.waits.map((wait) => [wait.goroutine, waitsFor(wait)]) || [];
   session.leave();
-  return { lines: standing?.lines || [], cycle: standing?.cycle || [], waits, state: state?.text || "", steps };
+  return { lines: standing?.lines || [], cycle: standing?.cycle || [], waits, state: state?.text || "", steps, unlike };
 }
+
+// Of each goroutine the last step in a list.
+/** @param {Listed} list */
+const lastOf = ({ spans }) => new Map([...spans].map(([name, [, last]]) => [name, last]));
+
+/** @param {Map<string, number> | undefined} clock */
+const clockText = (clock) => JSON.stringify([...(clock || [])].sort());
 
 for await (const line of createInterface({ input: process.stdin })) {
   let found;

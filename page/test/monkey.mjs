@@ -84,7 +84,7 @@ function shownInPage() {
     channels: scene.channels.map((/** @type {Channel} */ it) => [it.name, it.items.join(" "), it.senders.join(" "), it.receivers.join(" ")]),
     clauses: [...scene.clauses].map(([name, ready]) => [name, ready.map((/** @type {{number: number}} */ { number }) => number)]),
     undone: log.gone.size, printed: log.steps(0, log.length).flatMap((/** @type {{id: string}} */ { id }) => page.note(id)?.printed || []),
-    breaks: [...breakpoints].sort(), noted: log.steps(0, log.length).filter((/** @type {{id: string}} */ { id }) => page.note(id)?.edges).length, lost: follower.lost,
+    breaks: [...breakpoints].sort(), noted: log.steps(0, log.length).filter((/** @type {{id: string}} */ { id }) => page.note(id) && page.session.order.edges.has(id)).length, lost: follower.lost,
     errors: page.errors,
   };
 }

@@ -12,10 +12,7 @@ const WHOLE = 20000; // a log of up to this many steps is followed from its star
 const FOLLOWED = 300000; // a longer log is not followed at all
 export const ALL_EDGES = 5000; // of a longer log only the edges into the steps around the view are found
 const NEAR = 10; // so many steps above and below it
-const EDGES_AT_ONCE = 60;
-const EDGES_OF_LONG = 4; // at once of a longer log, whose causes take their time
-const AHEAD = 150000; // steps: in a longer log, consequences are asked only when they are wanted
-const REST = 300; // milliseconds with nothing new, after which they are asked ahead
+const AHEAD = 150000; // steps: in a longer log, causes and consequences are asked only when they are wanted
 
 export class Annotating {
   /** @param {import("./page.js").Page} page */
@@ -23,7 +20,6 @@ export class Annotating {
     this.page = page;
     this.done = -1; // the stamp up to which everything is found
     this.timer = 0;
-    this.rest = 0;
     this.work = Promise.resolve();
     this.turns = 0; // how often something was looked for
     /** @type {Map<string, string>} */
@@ -35,7 +31,6 @@ export class Annotating {
   /** @param {number} stamp */
   begin(stamp) {
     const turn = ++this.turns;
-    clearTimeout(this.rest);
     this.work = this.work.then(() => this.find(stamp, turn)).then(() => {}, (fault) => this.failed(fault));
   }
 
@@ -66,6 +61,9 @@ export class Annotating {
     if (!session || isOld()) return;
     await this.findClauses(session);
     if (isOld()) return;
+    const [from, to] = this.wanted(session).edges;
+    await session.order.find(from, to);
+    if (isOld()) return;
     if (session.log.length <= FOLLOWED) await this.follow(session, isOld);
     if (isOld()) return;
     await this.findStanding(session, isOld);
@@ -74,9 +72,8 @@ export class Annotating {
     this.show();
     page.tell();
     const isOver = () => isOld() || turn !== this.turns;
-    await this.findCauses(session, isOver);
     const { length } = session.log;
-    if (length > ALL_EDGES && length <= AHEAD && !isOver()) this.rest = window.setTimeout(() => this.askAhead(session, isOver), REST);
+    if (length > ALL_EDGES && length <= AHEAD) await this.askAhead(session, isOver);
   }
 
   // Shows what was found since.
@@ -122,38 +119,9 @@ export class Annotating {
         shown = performance.now();
       }
     }
-    await this.findEdges(session, isOld);
   }
 
-  // Finds edges, a few steps at once, so that whoever wants the follower meanwhile gets it.
-  /**
-   * @param {import("../session/session.js").Session} session
-   * @param {() => boolean} isOld
-   */
-  async findEdges(session, isOld, [from, to] = this.wanted(session).edges) {
-    const { log, follower, direct } = session;
-    const some = log.length > ALL_EDGES ? EDGES_OF_LONG : EDGES_AT_ONCE;
-    for (let row = from; row < to && !isOld(); row += some) {
-      const missing = log.steps(row, Math.min(to, row + some)).filter(({ id }) => follower.notes.has(id) && !follower.notes.get(id)?.edges);
-      if (missing.length) await follower.inTurn(async () => (isOld() ? undefined : direct.find(missing)));
-    }
-  }
-
-  // Finds the causes of the other steps around the view of a long log, so that pointing at one of them need not ask for a long list.
-  /**
-   * @param {import("../session/session.js").Session} session
-   * @param {() => boolean} isOld
-   */
-  async findCauses(session, isOld, [from, to] = this.wanted(session).edges) {
-    const { log, follower, direct } = session;
-    if (log.length <= ALL_EDGES || log.length > FOLLOWED) return;
-    for (let row = from; row < to && !isOld(); row += EDGES_OF_LONG) {
-      const ids = log.steps(row, Math.min(to, row + EDGES_OF_LONG)).map(({ id }) => id).filter((id) => follower.notes.get(id)?.causes === null);
-      if (ids.length) await follower.inTurn(async () => (isOld() ? undefined : direct.askCauses(ids)));
-    }
-  }
-
-  // Asks the consequences of the steps in view too, one after another, so that a command waits for one answer at most.
+  // Asks the causes and consequences of the steps in view, one after another, so that a command waits for one answer at most.
   /**
    * @param {import("../session/session.js").Session} session
    * @param {() => boolean} isOver
@@ -193,7 +161,7 @@ export class Annotating {
     if (!session) return [];
     const [from, to] = this.wanted(session).edges;
     const edges = [];
-    for (let row = from; row < to; row++) edges.push(...(this.page.note(session.log.id(row))?.edges || []));
+    for (let row = from; row < to; row++) edges.push(...(session.order.edges.get(session.log.id(row)) || []));
     return edges;
   }
 
@@ -234,7 +202,7 @@ export class Annotating {
     if (!session) return "";
     const { log, follower } = session;
     if (follower.lost) return phrase("From {step} on, lines and arrows cannot be found.", { step: follower.lost });
-    if (log.length > FOLLOWED) return phrase("Of a log of more than {most} steps no lines, prints and arrows are found.", { most: FOLLOWED });
+    if (log.length > FOLLOWED) return phrase("Of a log of more than {most} steps no lines and prints are found, and arrows are drawn into the steps that are in view.", { most: FOLLOWED });
     if (log.length > ALL_EDGES) return phrase("Of this long log, arrows are drawn into the steps that are in view.");
     return "";
   }

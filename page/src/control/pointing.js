@@ -171,7 +171,7 @@ export class Pointing {
     /** @type {Map<string, number[]>} */
     const direct = new Map();
     const before = this.log?.before(id);
-    const sources = (this.page.note(id)?.edges || []).map(({ from }) => from);
+    const sources = (this.page.session?.order.edges.get(id) || []).map(({ from }) => from);
     for (const it of [...(before ? [before] : []), ...sources]) direct.set(goroutineOf(it), [...(direct.get(goroutineOf(it)) || []), numberOf(it)]);
     return direct;
   }

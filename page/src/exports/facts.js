@@ -1,5 +1,4 @@
-// What is known of each step of a run, for files that other tools read. All of it comes from the program: the clock of a step is its
-// reply to `causes`, which has every step of a goroutine up to the last one.
+// What is known of each step of a run, for files that other tools read.
 
 import { ALL_EDGES } from "../control/annotating.js";
 import { compareNames } from "../engine/protocol.js";
@@ -31,18 +30,14 @@ import { phrase } from "../phrases.js";
 // Columns without bounds, so that no word of a line is cut.
 const WHOLE = /** @type {any} */ ({ mostStatement: Infinity, mostOutcome: Infinity });
 
-// Finds all notes, edges and causes of a session.
-/**
- * @param {Page} page
- * @param {Session} session
- */
-async function findAll(page, session) {
-  const { log, follower, direct } = session;
+// Finds all notes and edges of a session.
+/** @param {Session} session */
+async function findAll(session) {
+  const { log, follower } = session;
   const isOld = () => session.isLeft;
   const { length } = log;
   while (!isOld() && !(await follower.inTurn(() => follower.annotate(0, length))));
-  await page.annotating.findEdges(session, isOld, [0, length]);
-  await follower.inTurn(() => direct.askCauses(log.steps(0, length).map(({ id }) => id)));
+  await session.order.find(0, length);
 }
 
 /** @param {Session} session */
@@ -57,17 +52,17 @@ function lackOf({ log, follower }) {
  * @param {Session} session
  * @returns {Run}
  */
-function read(page, { log }) {
+function read(page, { log, order }) {
   const shown = shownOf(page);
   const place = /** @type {any} */ ({ ...shown, log, columns: WHOLE });
   const facts = log.steps(0, log.length).map((step) => {
     const note = /** @type {Note} */ (page.note(step.id));
     const { kind, outcome } = lineOf(step, note, place);
     const before = log.before(step.id);
-    const edges = note.edges || [];
+    const edges = order.edges.get(step.id) || [];
     return {
       step, note, says: kind, outcome: outcome.filter(({ name }) => name !== "printed").map(({ text }) => text).join(" "),
-      clock: [...(note.causes || [])].sort(([one], [other]) => compareNames(one, other)), edges,
+      clock: [...(order.causes(step.id) || [])].sort(([one], [other]) => compareNames(one, other)), edges,
       rests: [...(before ? [before] : []), ...edges.map(({ from }) => from)],
     };
   });
@@ -83,10 +78,10 @@ export async function factsOf(page) {
   const { session } = page;
   if (!session || page.hindrance) return { run: null, lack: page.hindrance };
   const { version } = session.log;
-  if (!lackOf(session)) await findAll(page, session);
+  if (!lackOf(session)) await findAll(session);
   const lack = lackOf(session);
   if (lack) return { run: null, lack };
   const isSame = session === page.session && session.log.version === version;
-  const isWhole = isSame && session.log.steps(0, session.log.length).every(({ id }) => page.note(id)?.edges && page.note(id)?.causes);
+  const isWhole = isSame && session.log.steps(0, session.log.length).every(({ id }) => page.note(id) && session.order.causes(id));
   return isWhole ? { run: read(page, session), lack: "" } : { run: null, lack: phrase("The run has changed meanwhile: save it again.") };
 }

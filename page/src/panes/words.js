@@ -116,9 +116,9 @@ export class Words {
    * @param {(id: string) => Note | undefined} note
    * @returns {{tone: string, text: string} | null}
    */
-  state({ log, scene, program }, standing, note) {
+  state({ log, scene, program, order }, standing, note) {
     const end = log.end;
-    if (end?.kind.startsWith("fault")) return { tone: "stuck", text: `${this.faultText(end, note(end.id), program)}${causeText(note(end.id))}` };
+    if (end?.kind.startsWith("fault")) return { tone: "stuck", text: `${this.faultText(end, note(end.id), program)}${causeText(order.edges.get(end.id))}` };
     if (end) return this.ended(scene, standing, program);
     if (!scene.isStuck || !log.length) return null;
     const waits = new Wishes(program, scene.goroutines, scene.channels).shown(scene.hidden > 0);
@@ -181,8 +181,8 @@ export class Words {
 }
 
 // The step that a panic depends on.
-/** @param {Note | undefined} note */
-const causeText = (note) => (note?.edges?.length ? ` ${phrase("It depends on {step}.", { step: note.edges[0].from })}` : "");
+/** @param {Edge[] | undefined} edges */
+const causeText = (edges) => (edges?.length ? ` ${phrase("It depends on {step}.", { step: edges[0].from })}` : "");
 
 // What one goroutine waits for, and where.
 /**

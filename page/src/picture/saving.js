@@ -14,7 +14,7 @@ const PARTS = [[20000, 800], [Infinity, 60]]; // up to so many steps of a longer
  * @param {{title?: string, hasLegend?: boolean}} how
  */
 export async function savePicture(page, { title = "", hasLegend = true } = {}) {
-  const { session, views, annotating } = page;
+  const { session, views } = page;
   if (!session) return "";
   const { log, follower } = session;
   const isWhole = log.length <= ALL_EDGES;
@@ -23,11 +23,11 @@ export async function savePicture(page, { title = "", hasLegend = true } = {}) {
   const [from, to] = isWhole ? [0, log.length] : [Math.max(0, inView - part), Math.min(log.length, below + part)];
   const isOld = () => session.isLeft;
   while (!isOld() && !(await follower.inTurn(() => follower.annotate(from, to))));
-  await annotating.findEdges(session, isOld, [from, to]);
+  await session.order.find(from, to);
   const { picture } = views;
   const isSplit = !isWhole || Boolean(follower.lost);
   const rows = new Rows(log, { isFolded: isWhole && picture.isFolded, hidden: isWhole ? picture.hidden : new Set() });
-  const edges = log.steps(from, to).flatMap(({ id }) => (page.note(id)?.edges || []).filter((edge) => log.row(edge.from) >= from));
+  const edges = log.steps(from, to).flatMap(({ id }) => (session.order.edges.get(id) || []).filter((edge) => log.row(edge.from) >= from));
   const shown = { ...shownOf(page), log, rows };
   const name = views.stories.name.replaceAll("_", " ");
   return savedPicture(shown, edges, picture.view, {

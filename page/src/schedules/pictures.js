@@ -3,11 +3,11 @@
 import { calledBy, holdersOf } from "../panes/holders.js";
 import { cycleHeight, drawLanes, drawNames } from "../picture/lanes.js";
 import { NOTHING_POINTED, withOwnTips } from "../picture/picture.js";
-import { DirectEdges } from "../session/direct.js";
 import { drawLines } from "../picture/lines.js";
 import { Follower } from "../session/follower.js";
 import { layOut } from "../picture/layout.js";
 import { Log } from "../session/log.js";
+import { Order } from "../session/order.js";
 import { Rows } from "../picture/rows.js";
 import { compareNames, stepName } from "../engine/protocol.js";
 import { word } from "../session/edges.js";
@@ -37,15 +37,14 @@ export async function followed(page, session, schedule) {
   const log = new Log();
   log.restart(schedule.steps);
   const follower = new Follower(session.follower.machine, session.statements, log, clausesOf(schedule));
-  const direct = new DirectEdges(follower);
+  const order = new Order(log, follower.facts);
   try {
     while (!(await follower.annotate(0, log.length)));
-    await direct.find(log.steps(0, log.length));
-    await direct.askCauses(log.steps(0, log.length).map(({ id }) => id));
+    await order.find(0, log.length);
     const before = await follower.sceneAt(Math.max(0, log.length - 1), () => true); // behind the end of `main` no variable holds a channel
     const scene = await follower.sceneAt(log.length, () => true);
     const holders = holdersOf([...(scene?.goroutines || []), ...(before?.goroutines || [])]);
-    return { schedule, log, notes: follower.notes, shown: shownOf(page, log, follower.notes, { scene, holders }), scene };
+    return { schedule, log, order, shown: shownOf(page, log, follower.notes, { scene, holders }), scene };
   } finally {
     follower.close();
   }
@@ -89,8 +88,8 @@ function shownOf({ words, annotating, session }, log, notes, { scene, holders })
 
 // The steps as they are aligned: each with how many steps of each goroutine it depends on.
 /** @param {Followed} of */
-export const knownSteps = ({ log, notes }) =>
-  log.steps(0, log.length).map(({ id, kind }) => ({ id, kind, clock: JSON.stringify([...(notes.get(id)?.causes || [])].sort(([one], [other]) => compareNames(one, other))) }));
+export const knownSteps = ({ log, order }) =>
+  log.steps(0, log.length).map(({ id, kind }) => ({ id, kind, clock: JSON.stringify([...(order.causes(id) || [])].sort(([one], [other]) => compareNames(one, other))) }));
 
 // The steps in which goroutines began to wait that are stuck at the end.
 /** @param {Followed} of */
@@ -119,12 +118,12 @@ function lineAt(lines, at) {
  * @param {{own: Set<string>, parting: string, height: number, room: number}} how the steps that the other has not, the first of them, the lines of both, and the width
  */
 export function drawn(of, lines, { own, parting, height, room }) {
-  const { shown, log, notes } = of;
+  const { shown, log, order } = of;
   const layout = layOut(shown, { rowHeight: ROW, room: Math.max(LEAST_ROOM, room) });
   const y = (/** @type {number} */ at) => layout.head + (lineAt(lines, at) + 0.5) * ROW;
   const place = { ...layout, y };
   const view = { ...NOTHING_POINTED, pointed: parting, found: own, stuck: /** @type {Set<string>} */ (stuckOf(of)) };
-  const edges = log.steps(0, log.length).flatMap(({ id }) => notes.get(id)?.edges || []);
+  const edges = log.steps(0, log.length).flatMap(({ id }) => order.edges.get(id) || []);
   const [width, tall] = [Math.ceil(layout.lanes + layout.lineWidth), layout.head + (height + 1) * ROW + cycleHeight(place, [])];
   const parts = drawNames(place) + drawLanes(place, edges, view, 0, log.length - 1) + drawLines(place, view, 0, log.length - 1, { left: layout.lanes });
   return { svg: `<svg class="picture" width="${width}" height="${tall}" viewBox="0 0 ${width} ${tall}" role="img">${withOwnTips("beside", parts)}</svg>`, top: (/** @type {number} */ line) => layout.head + line * ROW };

@@ -1,28 +1,19 @@
-// A third session that goes along the log: it finds what the log does not tell of a step (its statement, what it printed, which steps
-// of others it depends on directly), and shows any past state. The user's session is left alone.
+// A third session that goes along the log. It finds the variables before each step, which tell what the step sent, received and printed,
+// and shows any past state. Of each step it keeps a note. The user's session is left alone.
 
 import { SessionGone } from "../engine/remote.js";
-import { isWait, mayWake } from "./edges.js";
 import { openExpanded, stepCommand } from "./mirror.js";
-import { compareNames, goroutineOf, parseGoroutine } from "../engine/protocol.js";
+import { compareNames, parseGoroutine } from "../engine/protocol.js";
+import { isWait } from "./edges.js";
+import { Facts, channelsOf, receives, slotOf, wokenBy } from "./facts.js";
 import { readScene } from "./scene.js";
-import { printsOf } from "./statements.js";
 import { caseOf, isReceive, metCase, operationOf, receivedPart } from "./messages.js";
-import { channelsOf } from "./operations.js";
 import { phrase } from "../phrases.js";
 
 const AT_ONCE = 2000; // steps taken, or undone, in one exchange without questions
 const ASKED = 200; // and with questions
-const SLEEPERS = 64; // at most this many goroutines are asked whether a step woke them
 
 /** @typedef {import("../engine/remote.js").RemoteSession} RemoteSession */
-
-/**
- * @typedef {object} Asked
- * @property {Step} step
- * @property {string[]} commands
- * @property {string[]} sleepers the steps in which those asked began to wait
- */
 
 export class Follower {
   /**
@@ -30,19 +21,18 @@ export class Follower {
    * @param {import("./statements.js").Statements} statements
    * @param {import("./log.js").Log} log
    * @param {Map<string, string>} clauses
+   * @param {Facts | null} facts of the log, where another session tells them
    */
-  constructor(machine, statements, log, clauses) {
+  constructor(machine, statements, log, clauses, facts = null) {
     this.machine = machine;
     this.statements = statements;
     this.log = log;
     this.clauses = clauses;
+    this.facts = facts || new Facts(log, (from, to) => this.about(from, to));
     /** @type {Map<string, Note>} */
     this.notes = new Map();
-    /** @type {Map<string, string>} */
-    this.wakers = new Map(); // of a step that waits, the step that woke its goroutine
     this.at = 0; // how many steps of the log it has taken
     this.lost = ""; // why it cannot follow any more
-    this.isUnsure = statements.all.some((it) => printsOf(it) === null);
     /** @type {RemoteSession | null} */
     this.remote = null;
     this.isClosed = false;
@@ -81,7 +71,6 @@ export class Follower {
     this.remote?.close();
     this.remote = null;
     this.notes.clear();
-    this.wakers.clear();
     this.lost = "";
   }
 
@@ -91,14 +80,12 @@ export class Follower {
     for (const id of ids) {
       for (const wait of this.notes.get(id)?.woke || []) this.unmeet(wait);
       this.notes.delete(id);
-      this.wakers.delete(id);
     }
   }
 
   // The step that ended a wait is gone.
   /** @param {string} wait */
   unmeet(wait) {
-    this.wakers.delete(wait);
     const waited = this.notes.get(wait);
     if (waited) waited.taken = waited.received = "";
   }
@@ -147,6 +134,17 @@ export class Follower {
     return !this.lost;
   }
 
+  // What its own session tells of the steps between two rows of the log.
+  /**
+   * @param {number} from
+   * @param {number} to
+   * @returns {Promise<About[]>}
+   */
+  async about(from, to) {
+    await this.moveTo(this.log.length);
+    return (await (await this.session()).askAll([`about ${from + 1} ${to}`], "told"))[0].about;
+  }
+
   // Finds the notes of up to ASKED rows between two, and says whether all of them are found.
   /**
    * @param {number} from
@@ -157,6 +155,7 @@ export class Follower {
     let first = Math.max(0, from);
     while (first < last && this.notes.has(this.log.id(first))) first++;
     if (first >= last || this.lost) return true;
+    await this.facts.need(first, Math.min(last, first + ASKED));
     await this.moveTo(first);
     const steps = this.at === first ? this.log.steps(first, Math.min(last, first + ASKED)) : [];
     if (this.lost || !steps.length) return true;
@@ -164,81 +163,45 @@ export class Follower {
     return first + ASKED >= last;
   }
 
+  // Asks where each step stands before it is taken.
   /** @param {Step[]} steps */
   async note(steps) {
     const session = await this.session();
-    const asked = this.questionsFor(steps);
-    const replies = await session.askAll(asked.flatMap(({ commands }) => commands), "tail");
+    const facts = steps.map(({ row }) => this.facts.at(row));
+    if (steps.some(({ id }, at) => facts[at]?.id !== id)) return; // the log changed meanwhile
+    const replies = await session.askAll(steps.flatMap((step) => [`show ${step.goroutine}`, stepCommand(step, this.clauses)]), "tail");
     /** @type {Map<string, (Note | undefined)[]>} */
     const printing = new Map(); // of each goroutine, its steps that print
-    let at = 0;
-    for (const one of asked) {
-      const { step, commands } = one;
-      const some = replies.slice(at, at + commands.length);
-      at += commands.length;
-      if (!this.check(step, some[commands.indexOf(stepCommand(step, this.clauses))].last)) break;
-      const note = this.noteOf(one, some);
+    for (const [at, step] of steps.entries()) {
+      if (!this.check(step, replies[2 * at + 1].last)) break;
+      const fact = /** @type {About} */ (facts[at]);
       const isKept = step.row < this.log.changedFrom; // else the step was taken back meanwhile
-      if (isKept) this.keep(step, note);
-      if (step.kind === "pure" && printsOf(note.statement)) printing.set(step.goroutine, [...(printing.get(step.goroutine) || []), isKept ? note : undefined]);
+      const note = isKept ? this.noteOf(step, fact, parseGoroutine(replies[2 * at]).frames) : undefined;
+      if (note) this.keep(step, fact, note);
+      if (fact.prints) printing.set(step.goroutine, [...(printing.get(step.goroutine) || []), note]);
     }
-    if (!this.isUnsure) await this.takePrinted(session, printing);
-  }
-
-  // Around each step: where it stands before it, and after it whether those that wait still do. Where a statement does not tell
-  // whether a step of it prints, the text before and after it does.
-  /**
-   * @param {Step[]} steps
-   * @returns {Asked[]}
-   */
-  questionsFor(steps) {
-    const waiting = this.waitingAt(steps[0].row);
-    return steps.map((step) => {
-      waiting.delete(step.goroutine);
-      const sleepers = mayWake(step.kind) ? [...waiting.values()].slice(0, SLEEPERS) : [];
-      if (isWait(step.kind)) waiting.set(step.goroutine, step.id);
-      const text = this.isUnsure && step.kind === "pure" ? [`text ${step.goroutine}`] : [];
-      const states = sleepers.map((id) => `show ${goroutineOf(id)}`);
-      return { step, sleepers, commands: [`show ${step.goroutine}`, ...text, stepCommand(step, this.clauses), ...text, ...states] };
-    });
-  }
-
-  // The goroutines that wait before a row, as far as their last steps tell.
-  /** @param {number} row */
-  waitingAt(row) {
-    /** @type {Map<string, string>} */
-    const waiting = new Map();
-    for (const { name, rows } of this.log.byName.values()) {
-      let last = rows.length - 1;
-      while (last >= 0 && rows[last] >= row) last--;
-      if (last >= 0 && isWait(this.log.kinds[rows[last]])) waiting.set(name, `${name}#${last + 1}`);
-    }
-    return waiting;
+    await this.takePrinted(session, printing);
   }
 
   /**
-   * @param {Asked} asked
-   * @param {any[]} replies
+   * @param {Step} step
+   * @param {About} fact
+   * @param {Frame[]} frames
    * @returns {Note}
    */
-  noteOf({ step, sleepers, commands }, replies) {
-    const { line, frames } = parseGoroutine(replies[0]);
-    const statement = this.statements.at(line) || null;
+  noteOf(step, fact, frames) {
+    const line = fact.at && fact.at.line;
+    const statement = this.statements.at(line);
     const number = /^pick (\d+)$/.exec(step.kind)?.[1] || this.clauses.get(step.id);
     const variables = frames[0]?.variables || [];
     const taken = (number && statement?.clauses[Number(number) - 1]) || "";
     const text = taken || statement?.text || "";
-    const frame = { depth: frames.length, variables };
-    const channels = channelsOf(step.kind, statement, variables);
-    const states = replies.slice(commands.length - sleepers.length);
-    const woke = sleepers.filter((id, at) => parseGoroutine(states[at]).state !== "waiting" && !this.wakers.has(id));
-    const printed = this.isUnsure && step.kind === "pure" ? newLines(replies[1], replies[3]) : [];
     const cases = step.kind === "select-wait" ? (statement?.clauses || []).map((it) => caseOf(it, variables)) : [];
     const turn = this.turnOf(step, statement);
     const part = isReceive(step.kind) ? receivedPart(text, turn) : "";
     return {
-      line: this.statements.lineOf(line), statement, frame, printed, woke, causes: null, edges: null, channels, cases, turn, taken,
-      received: "", part, over: taken ? caseOf(taken, variables) : operationOf(step.kind, text, part, variables),
+      line: this.statements.lineOf(line), statement, frame: { depth: frames.length, variables }, printed: [], woke: wokenBy(fact), channels: channelsOf(fact), cases, turn, taken,
+      received: "", part, over: operationOf(fact, text, variables),
     };
   }
 
@@ -255,35 +218,37 @@ export class Follower {
     return note.statement === statement && isReceive(this.log.kindOf(before)) ? note.turn + 1 : 0;
   }
 
+  // Keeps a note, and tells the waits that the step ended what they were met by.
   /**
    * @param {Step} step
+   * @param {About} fact
    * @param {Note} note
    */
-  keep({ id }, note) {
+  keep({ id, kind }, fact, note) {
     this.notes.set(id, note);
-    for (const wait of note.woke) {
-      this.wakers.set(wait, id);
-      this.meet(wait, id);
+    if (receives(fact) && !isWait(kind)) note.received = this.valueOf(note, slotOf(fact)?.step);
+    for (const wait of kind === "close" ? [] : note.woke) {
+      const waited = this.notes.get(wait);
+      if (!waited) continue;
+      waited.taken = metCase(waited.cases, note.over)?.text || "";
+      if (note.over.isSend) waited.received = note.over.sent;
     }
   }
 
-  // A wait that another step met ended there: its select took a case, and its receive got the value. A take has the first item of a
-  // buffer, and not what the sender that it woke put behind the others.
+  // The value that a step received: out of a buffer the one that a step put there, and else that of the sender that it let go on.
   /**
-   * @param {string} wait
-   * @param {string} by
+   * @param {Note} note
+   * @param {string | null | undefined} put
    */
-  meet(wait, by) {
-    const [waited, note] = [this.notes.get(wait), this.notes.get(by)];
-    if (!waited || !note || this.log.kindOf(by) === "close") return;
-    const met = metCase(waited.cases, note.over);
-    waited.taken = met?.text || "";
-    if (note.over.isSend) waited.received = note.over.sent;
-    else if (this.log.kindOf(by) !== "take") note.received ||= met?.sent || "";
+  valueOf(note, put) {
+    const giver = put ? this.notes.get(put) : note;
+    if (giver?.over.isSend) return giver.over.sent;
+    const wait = giver && this.notes.get(giver.woke[0]);
+    return (wait && (wait.cases.length ? metCase(wait.cases, giver.over) : wait.over)?.sent) || "";
   }
 
-  // Gives each step of a `println` the line that it printed, from the end of the text of its goroutine. Of a step that was taken back
-  // meanwhile the line stands there too.
+  // Gives each step that prints the line that it printed, from the end of the text of its goroutine. What this session has taken and the
+  // log no longer has is not among them: its lines stand behind the others.
   /**
    * @param {RemoteSession} session
    * @param {Map<string, (Note | undefined)[]>} printing
@@ -333,12 +298,6 @@ export class Follower {
     return readScene(await this.session(), names, channels, this.statements);
   }
 }
-
-/**
- * @param {Tail} before
- * @param {Tail} after
- */
-const newLines = (before, after) => (after.count > before.count ? after.lines.slice(before.count - after.count) : []);
 
 // The names of goroutines and channels that the first rows of a log gave.
 /**

@@ -1,9 +1,9 @@
-// Causes and consequences of steps, each asked once: the replies are kept until the log changes. The follower asks causes for the arrows
-// around the view, and those are taken from its notes.
+// Causes and consequences of steps, each asked once: the replies are kept until the log changes. Causes that the order of the steps tells
+// are not asked.
 
 const KEPT = 2000; // lists
 
-// What the causes in a note are as a list: of each goroutine all steps up to the last one.
+// Causes as a list: of each goroutine all steps up to the last one.
 /**
  * @param {Map<string, number>} causes
  * @returns {Listed}
@@ -16,12 +16,12 @@ function listOf(causes) {
 export class Known {
   /**
    * @param {import("./mirror.js").Mirror} mirror
-   * @param {import("./follower.js").Follower} follower
+   * @param {import("./order.js").Order} order
    * @param {import("./log.js").Log} log
    */
-  constructor(mirror, follower, log) {
+  constructor(mirror, order, log) {
     this.mirror = mirror;
-    this.follower = follower;
+    this.order = order;
     this.log = log;
     this.version = log.version; // of the log that the kept lists are of
     /** @type {Map<string, Listed>} */
@@ -34,7 +34,7 @@ export class Known {
     if (this.version !== this.log.version || this.lists.size > KEPT) this.lists.clear();
     this.version = this.log.version;
     const [word, id] = command.split(" ");
-    const causes = word === "causes" && this.follower.notes.get(id)?.causes;
+    const causes = word === "causes" && this.order.causes(id);
     return causes ? listOf(causes) : this.lists.get(command);
   }
 

@@ -36,6 +36,8 @@ export class Log {
     this.gone = new Map(); // what `redo` would take: the steps with their kinds
     this.changedFrom = Infinity; // no row before this one was changed since it was last set
     this.version = 0; // counts the changes
+    /** @type {((row: number) => void)[]} */
+    this.watchers = []; // that are told of rows that changed
     /** @type {string[] | null} */
     this.named = null;
     this.column("g0");
@@ -135,10 +137,17 @@ export class Log {
     return [...this.byName.values()].flatMap((column) => Array.from({ length: column[what] }, (_, at) => `${column.name}${between}${at + 1}`));
   }
 
+  // Tells of each row from which on the log changed; new rows are no change.
+  /** @param {(row: number) => void} seen */
+  watch(seen) {
+    this.watchers.push(seen);
+  }
+
   /** @param {number} row */
   touch(row) {
     this.version++;
     this.changedFrom = Math.min(this.changedFrom, row);
+    for (const seen of this.watchers) seen(row);
   }
 
   /**

@@ -1,5 +1,7 @@
-// What the text of a step does over a channel. A text may leave open which channel it is: then that is "".
+// What a step does over a channel, and with which value, as far as its text tells the value. A case of a select that waits may leave open
+// which channel it is: then that is "".
 
+import { sends } from "./facts.js";
 import { channelsIn, sentValue } from "./values.js";
 
 const RECEIVE = /^(?:[^<]*=\s*)?<-(.*)$/s;
@@ -45,17 +47,16 @@ export function receivedPart(text, turn) {
   return parts.length > 1 && turn < parts.length ? parts[turn] : "";
 }
 
-// What a step does whose kind is a send or a receive, in a statement of this text.
+// What a step did, in a statement or a case of this text.
 /**
- * @param {string} kind
+ * @param {About} fact
  * @param {string} text
- * @param {string} part
  * @param {Variable[]} variables
  * @returns {Operation}
  */
-export function operationOf(kind, text, part, variables) {
-  if (!isReceive(kind)) return { text, isSend: true, channel: channelIn(SEND.exec(text)?.[1] || "", variables), sent: sentValue(text, variables) };
-  return { text, isSend: false, channel: channelIn(part || text.replace(/^\s*\w+\s*<-/, ""), variables), sent: "" };
+export function operationOf(fact, text, variables) {
+  const isSend = sends(fact);
+  return { text, isSend, channel: fact.channel?.name || "", sent: isSend ? sentValue(text, variables) : "" };
 }
 
 // The case with which a select that waited was met by an operation of another goroutine; nothing where several may be it.

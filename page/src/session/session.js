@@ -2,12 +2,13 @@
 // and what was commanded. It is made whole and left whole: whatever still runs of a session that was left ends by itself.
 
 import { CHANGES, wordsOf } from "../engine/protocol.js";
-import { DirectEdges } from "./direct.js";
+import { Facts } from "./facts.js";
 import { Program } from "../waiting/flows.js";
 import { Follower } from "./follower.js";
 import { Known } from "./known.js";
 import { Log } from "./log.js";
 import { Mirror } from "./mirror.js";
+import { Order } from "./order.js";
 import { Origin } from "./origin.js";
 import { NOTHING, unshown } from "./scene.js";
 import { isUnanswered, RemoteSession, SessionGone } from "../engine/remote.js";
@@ -46,9 +47,10 @@ export class Session {
     /** @type {Map<string, string>} */
     this.clauses = new Map(); // that were named in a step that was a fault
     this.mirror = new Mirror(machine, this.statements, this.log, this.clauses);
-    this.follower = new Follower(machine, this.statements, this.log, this.clauses);
-    this.direct = new DirectEdges(this.follower);
-    this.known = new Known(this.mirror, this.follower, this.log);
+    this.facts = new Facts(this.log, (from, to) => this.mirror.about(from, to));
+    this.order = new Order(this.log, this.facts);
+    this.follower = new Follower(machine, this.statements, this.log, this.clauses, this.facts);
+    this.known = new Known(this.mirror, this.order, this.log);
     /** @type {string[]} */
     this.commands = []; // that changed it
     /** @type {Set<number>} */

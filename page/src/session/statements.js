@@ -224,10 +224,3 @@ export class Statements {
     return lines.reduce((least, it) => Math.min(least, it), lines[0] || 0);
   }
 }
-
-// How many lines of output a pure step of this statement writes: one, none, or unknown (null).
-/** @param {Statement | null} statement */
-export function printsOf(statement) {
-  if (!statement || !/^println\s*\(/.test(statement.text)) return 0;
-  return /&&|\|\|/.test(statement.text) ? null : 1;
-}

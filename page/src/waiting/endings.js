@@ -27,7 +27,6 @@ export async function fatesOf(follower, program, names) {
   log.restart(follower.log.steps(0, follower.log.length - 1));
   const other = new Follower(follower.machine, follower.statements, log, follower.clauses);
   other.notes = new Map(follower.notes);
-  other.wakers = new Map(follower.wakers);
   try {
     const end = await drain(other);
     const view = end === "" ? await readView(other, program) : null;

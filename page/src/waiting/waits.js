@@ -4,11 +4,11 @@
 import { Roles } from "./roles.js";
 import { Transfers, callsBefore } from "./transfers.js";
 import { goroutineOf, parseChannel, parseGoroutine, parseWaiter, stepName } from "../engine/protocol.js";
+import { WHOLE } from "../session/order.js";
 import { placed } from "../session/scene.js";
 
 export const NIL = "nil";
 const MOST = 2000; // of more goroutines or channels nothing is told
-const WHOLE = 20000; // steps: of a longer log who holds a lock is not told
 const MOST_ITEMS = 64;
 /** @type {{[verb: string]: Verb[]}} */
 const SERVED_BY = { send: ["receive"], receive: ["send", "close"] };
@@ -154,8 +154,8 @@ export class View extends Wishes {
     this.wishes = new Map(waiting.map((it) => [it.name, this.wishesOf(it)]));
     this.roles = new Roles(this.program, this.goroutines, this.places, [...this.channels.values()]);
     const wished = [...this.wishes.values()].flat().map(({ channel }) => channel);
-    this.transfers = new Transfers(this.follower.log.length > WHOLE ? [] : new Set(wished.filter((name) => name !== NIL)), this.program.carries);
-    await this.transfers.read(this.follower);
+    this.transfers = new Transfers(this.follower.log.length > WHOLE ? [] : new Set(wished.filter((name) => name !== NIL)));
+    await this.transfers.read(this.follower.log, this.follower.facts);
     return waiting.map(({ name, steps }) => {
       const wishes = (this.wishes.get(name) || []).map((wish) => this.served(name, wish));
       return { goroutine: name, places: this.places.get(name) || [], since: stepName(name, steps), wishes };

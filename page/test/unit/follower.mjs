@@ -2,6 +2,7 @@
 
 import assert from "node:assert/strict";
 import { test } from "node:test";
+import { Facts } from "../../src/session/facts.js";
 import { Follower } from "../../src/session/follower.js";
 import { Log } from "../../src/session/log.js";
 import { parseReplies } from "../../src/engine/protocol.js";
@@ -9,6 +10,12 @@ import { shaped } from "../../src/engine/shapes.js";
 import { Statements } from "../../src/session/statements.js";
 
 const SOURCE = "package main\nfunc main() {\nprintln(2)\nprintln(3)\nprintln(5)\n}\n";
+
+// What is told of the steps, one at each of these lines.
+/** @param {number[]} lines */
+const told = (lines) => [1, 2, 3].map((number, at) => ({
+  id: `g0#${number}`, kind: "pure", at: { function: "main", line: lines[at] }, channel: null, given: [], made: null, prints: true, reached: [], sources: [],
+}));
 
 // A session in which each step of g0 prints its line; after the steps of the first exchange, `meanwhile` happens.
 /**
@@ -49,7 +56,8 @@ test("steps that stay keep their own lines where one after them was taken back",
   const statements = new Statements(SOURCE);
   const log = new Log();
   for (const step of ["g0#1 pure", "g0#2 pure", "g0#3 pure"]) log.apply("step g0", parseReplies(`ok ${step}\n`)[0]);
-  const follower = new Follower(/** @type {any} */ (null), statements, log, new Map());
+  const facts = new Facts(log, async () => told(statements.all.map(({ expandedLine }) => expandedLine)));
+  const follower = new Follower(/** @type {any} */ (null), statements, log, new Map(), facts);
   const remote = printing(statements, (commands) => {
     if (commands.includes("step g0")) log.apply("undo", parseReplies("ok g0#3\n")[0]);
   });

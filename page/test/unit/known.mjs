@@ -1,4 +1,4 @@
-// Causes and consequences: each list is asked once, and none that the notes tell.
+// Causes and consequences: each list is asked once, and none that the order of the steps tells.
 
 import assert from "node:assert/strict";
 import { test } from "node:test";
@@ -17,7 +17,7 @@ function made() {
   for (const step of ["g0#1 make", "g0#2 go", "g0.1#1 pure", "g0#3 pure"]) log.apply(`step ${step.split("#")[0]}`, parseReplies(`ok ${step}\n`)[0]);
   /** @type {string[]} */
   const asked = [];
-  const notes = new Map();
+  const clocks = new Map();
   const mirror = {
     /** @param {string[]} commands */
     async lists(commands) {
@@ -25,20 +25,21 @@ function made() {
       return commands.flatMap((command) => shaped(ANSWERS[command], "listed"));
     },
   };
-  return { log, asked, notes, known: new Known(/** @type {any} */ (mirror), /** @type {any} */ ({ notes }), log) };
+  const order = { causes: (/** @type {string} */ id) => clocks.get(id) };
+  return { log, asked, clocks, known: new Known(/** @type {any} */ (mirror), /** @type {any} */ (order), log) };
 }
 
 /** @param {{count: number, spans: Map<string, number[]>}[]} some */
 const told = (some) => some.map(({ count, spans }) => [count, [...spans].sort()]);
 
-test("causes and consequences of a step are asked once, and none that the notes tell", async () => {
-  const { log, asked, notes, known } = made();
+test("causes and consequences of a step are asked once, and none that the order tells", async () => {
+  const { log, asked, clocks, known } = made();
   const first = await known.of("g0#2");
   assert.deepEqual(told(first), [[2, [["g0", [1, 2]]]], [3, [["g0", [2, 3]], ["g0.1", [1, 1]]]]], "the causes and the consequences of a step");
   assert.deepEqual([told(await known.of("g0#2")), asked.splice(0)], [told(first), ["causes g0#2", "deps g0#2"]], "a step that is pointed at again is not asked for");
   assert.deepEqual([known.has("g0#2"), known.has("g0.1#1")], [true, false], "what is known is told so");
-  notes.set("g0.1#1", { causes: new Map([["g0", 2], ["g0.1", 1]]) });
-  assert.deepEqual(told(await known.of("g0.1#1")), [[3, [["g0", [1, 2]], ["g0.1", [1, 1]]]], [1, [["g0.1", [1, 1]]]]], "causes that the notes have are those of a reply");
+  clocks.set("g0.1#1", new Map([["g0", 2], ["g0.1", 1]]));
+  assert.deepEqual(told(await known.of("g0.1#1")), [[3, [["g0", [1, 2]], ["g0.1", [1, 1]]]], [1, [["g0.1", [1, 1]]]]], "causes that the order tells are those of a reply");
   assert.deepEqual(asked.splice(0), ["deps g0.1#1"], "and are not asked for");
   log.apply("undo", parseReplies("ok g0#3\n")[0]);
   assert.equal(known.has("g0#2"), false, "of a log that has changed nothing of before is kept");

@@ -5,7 +5,7 @@ import { test } from "node:test";
 import { Log } from "../../src/session/log.js";
 import { Rows } from "../../src/picture/rows.js";
 import { edgePath } from "../../src/picture/curves.js";
-import { channelsOf, worksOn } from "../../src/session/operations.js";
+import { worksOn } from "../../src/session/operations.js";
 import { escaped, shortened } from "../../src/picture/labels.js";
 import { layOut } from "../../src/picture/layout.js";
 import { lineOf } from "../../src/picture/outcomes.js";
@@ -75,19 +75,12 @@ test("rows stay as they are where a goroutine is hidden later", () => {
   assert.deepEqual([Number.isFinite(lanes), names], [true, ["g0", "g0.1"]]);
 });
 
-// A goroutine that has made two channels and sends on the first: of a select all clauses count, of a pick the one that was picked.
 test("the operations of a channel", () => {
-  const variables = [{ name: "a", value: "g0/c1" }, { name: "b", value: "g0/c2" }, { name: "n", value: "7" }];
-  const send = { text: "a <- n", clauses: [] };
-  const select = { text: "select", clauses: ["a <- n", "v := <-b"] };
-  /** @type {[kind: string, statement: any][]} */
-  const found = [["buffer", send], ["select-wait", select], ["pick 2", select], ["pure", send], ["take", { text: "v := <-next()", clauses: [] }]];
-  assert.deepEqual(found.map(([kind, statement]) => channelsOf(kind, statement, variables)), [["g0/c1"], ["g0/c1", "g0/c2"], ["g0/c2"], [], []], "the channels that a step works on");
   const log = logOf(["g0", "make"], ["g0", "make"], ["g0", "pure"], ["g0", "buffer"], ["g0", "take"], ["g0", "close"]);
   /** @type {Map<string, any>} */
-  const notes = new Map([["g0#4", { channels: ["g0/c1"] }], ["g0#5", { channels: ["g0/c2"] }], ["g0#6", { channels: [] }]]);
+  const notes = new Map([["g0#1", { channels: [] }], ["g0#2", { channels: [] }], ["g0#3", { channels: [] }], ["g0#4", { channels: ["g0/c1"] }], ["g0#5", { channels: ["g0/c2"] }]]);
   const rows = new Rows(log, { isShown: worksOn(log, (id) => notes.get(id), "g0/c2") });
-  assert.deepEqual(rows.starts, [1, 4, 5], "a channel's operations, where it was made, and those of no known channel");
+  assert.deepEqual(rows.starts, [1, 4, 5], "a channel's operations, where it was made, and steps without a note");
   assert.deepEqual([0, 1, 2, 4].map((row) => rows.has(row)), [false, true, false, true], "steps that are in the picture");
   assert.equal(worksOn(log, () => undefined, "g0/c3"), null, "a channel that no step made");
 });

@@ -2,7 +2,7 @@
 
 import assert from "node:assert/strict";
 import { test } from "node:test";
-import { Statements, printsOf } from "../../src/session/statements.js";
+import { Statements } from "../../src/session/statements.js";
 
 const SOURCE = `package main
 func f(n int, c chan struct{}) int { if n > 0 { c <- struct{}{}; return f(n-1, c) }; return n } // two
@@ -41,10 +41,4 @@ test("the clauses of a select", () => {
 test("lines that have a breakpoint", () => {
   assert.deepEqual([found.snap(1), found.snap(3), found.snap(5), found.snap(99)], [2, 4, 6, 0], "on an empty line it is met at the next statement");
   assert.equal(found.runLines(2).length, 5, "a line of several statements has one on each");
-});
-
-test("which statements print", () => {
-  /** @param {string} text */
-  const prints = (text) => printsOf(found.all.find((it) => it.text.startsWith(text)) || null);
-  assert.deepEqual([prints("println(\"a"), prints("c :="), prints("println(f")], [1, 0, null]);
 });
