@@ -122,7 +122,7 @@ async function clicksAtLength(hands, t) {
   assert.ok(layouts <= LAYOUTS, `the page is laid out at most ${LAYOUTS} times for each, on the mean`);
   await hands.idle();
   await hands.browser.run("document.getElementById('search-text').value = 'total', document.getElementById('search').onsubmit(new Event('submit'))");
-  assert.ok(/^[\d,]+ steps with “total”, among the [\d,]+ steps whose statements are read$/.test(await hands.text("#found")), "of a long log, a search says how many steps were read");
+  assert.ok(/^[\d,]+ steps with “total”, among the [\d,]+ whose statements are read$/.test(await hands.text("#found")), "of a long log, a search says how many steps were read");
   const past = await timesOf(hands, (/** @type {number} */ at) => `rewind.page.past.lookAt(99900 - ${at})`, 3);
   assert.ok(past < LOOKING, "a past state near the end shows soon there");
   await hands.act("now");
