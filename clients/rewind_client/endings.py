@@ -4,6 +4,7 @@ The exit is taken back in a session of its own, and the others go on as far as t
 """
 from __future__ import annotations
 
+from collections import Counter
 from collections.abc import Callable, Sequence
 from dataclasses import dataclass
 from enum import Enum
@@ -61,7 +62,8 @@ class Rest:
         """`core` stands where the session does, and its last step, the exit, is taken back."""
         self.session = Session(core, session.program, session.begin)
         core.undo()
-        self.names = session.goroutine_names()
+        self.names, self.children = ["g0"], Counter[str]()
+        self.note_started(session.log())
         self.first = [it.name for it in session.goroutines() if it.state is not State.DONE and it.name != "g0"]
         self.done = {*self.names} - {*self.first}
         self.session.forget()
@@ -74,12 +76,17 @@ class Rest:
                 taken.append(replies.stepped(reply))
             elif reply.code == "N4":
                 self.done.add(command.split(" ")[1])
-        for entry in taken:
-            if entry.kind.word is KindWord.GO:
-                owner = step_owner(entry.step)
-                self.names.append(child_of(owner, 1 + sum(it.rpartition(".")[0] == owner for it in self.names)))
+        self.note_started(taken)
         self.session.forget()
         return taken
+
+    def note_started(self, entries: Sequence[Entry]) -> None:
+        """Notes the goroutines that some steps started, in the order of their starts."""
+        for entry in entries:
+            if entry.kind.word is KindWord.GO:
+                owner = step_owner(entry.step)
+                self.children[owner] += 1
+                self.names.append(child_of(owner, self.children[owner]))
 
     def fates(self) -> tuple[list[Fate], list[Wait]]:
         """What would become of each goroutine, and what those wait for that would wait for ever."""
