@@ -92,8 +92,7 @@ class Book:
                     target = self.link(name, str(part.attrGet("href")))
                     part.attrs = {"href": target} if target else {"title": "not in this book"}
                 elif part.type == "image":
-                    part.type, part.content = "text", part.content
-                    part.attrs, part.children = {}, None
+                    part.type, part.attrs, part.children = "text", {}, None
 
     def html(self) -> str:
         parts = []

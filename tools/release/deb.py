@@ -102,7 +102,7 @@ def stage(top: Path, program: str, runs: str, page: str, time: int) -> None:
     words = [f"{kit.ROOT}/tools/release/install.sh", str(top), "/usr"]
     subprocess.run(words, stdout=subprocess.DEVNULL, check=True, env={**os.environ, "REWIND_PROGRAM": program})
     share = top / "usr/share"
-    told = {name: subprocess.run([it, "--help"], capture_output=True, text=True, check=True).stdout for name, it in helpers(runs).items()}
+    told = {name: subprocess.run([it, "--help"], capture_output=True, text=True, check=True).stdout for name, it in programs_of(runs).items()}
     for name, text in told.items():
         for place, words_of in completions(name, text).items():
             put(share / place, words_of)
@@ -117,7 +117,7 @@ def stage(top: Path, program: str, runs: str, page: str, time: int) -> None:
     documents(share, time)
 
 
-def helpers(runs: str) -> dict[str, str]:
+def programs_of(runs: str) -> dict[str, str]:
     return {"rewind": runs, **{name: f"{kit.ROOT}/clients/{name}" for name in CLIENTS}}
 
 
