@@ -118,8 +118,8 @@ fn settle<B: Room>(
     settle_workers(locked, tie, workers);
 }
 
-/// Ends the sharing. It is refused exactly where a seat is missing: that of an asker whose number is above those before the sharing,
-/// and at most that of the askers that there may be. Then all comes back.
+/// Ends the sharing, where each seat that was given came back. It is refused only where a seat is missing: that of an asker whose
+/// number is above those before the sharing, and at most that of the askers that there may be. Then all comes back.
 ///
 /// Each asker's entries in the journal are its calls, and those of a worker are turns and steps that it was lent to take. The
 /// journal is full where an asker was told so. The session is one of the program that was shared, and its journal begins with the
