@@ -21,12 +21,15 @@ class Goroutine:
     frames: list[Any] = field(default_factory=list)
     # The channels that it waits for.
     waits: list[str] = field(default_factory=list)
+    # What came of all that it asked for, which decides where it stands.
+    given: list[Any] = field(default_factory=list)
     run: Any = None
     ask: Any = None
 
     def go_on(self, value: Any) -> None:
         """Goes on with what came of what it asked for."""
         self.status, self.waits = "ready", []
+        self.given.append(value)
         try:
             self.ask = self.run.send(value)
         except StopIteration:
