@@ -22,6 +22,8 @@ STATES = 1_000_000
 TICK = 0.05
 # What a sentence on a bad end says where it is no panic.
 DEADLOCK = "deadlock"
+# The sentence where there is no step to blame, since nothing but bad ends can be reached from the start.
+HOPELESS = "no schedule of the program ends well"
 # How many states were seen, in the sentence where no schedule ends badly.
 SEEN = re.compile(r"all (\d+) states seen|its one state seen")
 
@@ -54,6 +56,11 @@ class Blamed(NamedTuple):
 
     step: str
     sentence: str
+
+    @property
+    def is_hopeless(self) -> bool:
+        """Whether no schedule of the program ends well, so that no step is to blame."""
+        return self.sentence == HOPELESS
 
 
 class Run(NamedTuple):
@@ -130,11 +137,14 @@ def search_from(rewind: str, session: Session, states: int, cancelled: Callable[
     return found
 
 
-def blame_from(rewind: str, session: Session, states: int, cancelled: Callable[[], bool] = never) -> Blamed:
-    """Which step of a session's log is to blame for where it stands."""
+def blame_from(
+    rewind: str, session: Session, states: int, seconds: Optional[float] = None, cancelled: Callable[[], bool] = never
+) -> Blamed:
+    """Which step of a session's log is to blame for where it stands; no step where that takes more `seconds`."""
     with copied(session) as copy:
-        run = ran(rewind, ["--blame", copy, "--states", str(states)], steps_of(session), None, cancelled)
-    assert run is not None
+        run = ran(rewind, ["--blame", copy, "--states", str(states)], steps_of(session), seconds, cancelled)
+    if run is None:
+        return Blamed("", f"not finished within {seconds:g} seconds")
     return Blamed(run.out[0] if run.out else "", run.sentence)
 
 

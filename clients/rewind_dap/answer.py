@@ -2,6 +2,7 @@
 from __future__ import annotations
 
 import io
+from typing import Optional
 
 from rewind_client.finding import explained
 from rewind_client.program import Program
@@ -53,8 +54,8 @@ class Answer:
     def searched(self, states: int) -> Searched:
         return search_from(self.debuggee.launch.rewind, self.session, states)
 
-    def blamed(self, states: int) -> Blamed:
-        return blame_from(self.debuggee.launch.rewind, self.session, states)
+    def blamed(self, states: int, seconds: Optional[float] = None) -> Blamed:
+        return blame_from(self.debuggee.launch.rewind, self.session, states, seconds)
 
     def tell_chosen(self) -> None:
         found = self.session.goroutine(self.chosen)

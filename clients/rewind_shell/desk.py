@@ -1,7 +1,7 @@
 """What the words that only look want of whoever obeys them: the shell, or the console of an editor."""
 from __future__ import annotations
 
-from typing import AbstractSet, Protocol
+from typing import AbstractSet, Optional, Protocol
 
 from rewind_client.program import Program
 from rewind_client.searching import Blamed, Searched
@@ -63,8 +63,8 @@ class Desk(Protocol):
     def searched(self, states: int) -> Searched:
         """What comes of a search of all schedules from here."""
 
-    def blamed(self, states: int) -> Blamed:
-        """Which step of the log is to blame for where the session stands."""
+    def blamed(self, states: int, seconds: Optional[float] = None) -> Blamed:
+        """Which step of the log is to blame for where the session stands; no step where that takes more `seconds`."""
 
     def tell_chosen(self) -> None:
         """Says where the chosen goroutine stands."""

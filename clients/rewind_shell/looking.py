@@ -6,12 +6,13 @@ from typing import Optional
 
 from rewind_client.carried import CarriedProgram
 from rewind_client.direct import DirectCauses
-from rewind_client.explanations import explain
+from rewind_client.explanations import Standing, explain
 from rewind_client.expressions import evaluated
 from rewind_client.facts import Fact
 from rewind_client.names import is_channel, is_goroutine, is_step, step_number, step_of
 from rewind_client.program import Program
 from rewind_client.replies import Goroutine
+from rewind_client.searching import STATES
 from rewind_client.sentences import Sentences
 from rewind_client.session import NOTED
 from rewind_client.stories import Stories, relation
@@ -25,6 +26,8 @@ MAX_ROWS = 1000
 SHOWN_TEXT = 60
 # To follow so many steps takes longer than a person waits without a sign.
 LONG = 10_000
+# So many seconds `why` looks for the step to blame.
+BLAMED_WITHIN = 1
 
 
 class Looking:
@@ -125,9 +128,21 @@ class Looking:
     def why(self, _words: list[str]) -> None:
         session = self.shell.session
         self.tell_reading()
-        for line in Sentences(session).all(explain(session)):
+        found = explain(session)
+        for line in Sentences(session).all(found):
             self.screen.say(line, "faint" if line.startswith(" ") else "")
+        if found.standing in (Standing.DEADLOCK, Standing.FAULT):
+            self.tell_blame()
         self.tell_limit()
+
+    def tell_blame(self) -> None:
+        """Which step made the bad end certain, where a search finds it while a user waits."""
+        blamed = self.shell.blamed(STATES, BLAMED_WITHIN)
+        if blamed.step:
+            self.screen.say(f"{blamed.step} is to blame: before it some schedule ends well, and after it none does.")
+            tell_step(self.shell, blamed.step)
+        elif blamed.is_hopeless:
+            self.screen.say("No schedule of the program ends well.")
 
     def tell_reading(self) -> None:
         """Says at a terminal that the log is read, before that takes long."""
@@ -309,6 +324,14 @@ class Looking:
         self.screen.row(f"{'    ' if related else ''}{row(stories, self.shell.program, fact)}")
         if related:
             self.screen.say("        " + related, "faint")
+
+
+def tell_step(shell: Desk, step: str) -> None:
+    """A step that is worth taking back, and what goes with it."""
+    fact = shell.session.facts.of(step)
+    shell.screen.row(f"    {row(Stories(shell.session), shell.program, fact) if fact else step}")
+    others = len(shell.session.preview(step)) - 1
+    shell.screen.say(f"'back {step}' takes it back, {f'with {others} that depend on it' if others else 'alone'}")
 
 
 def used(word: Word) -> str:

@@ -5,10 +5,9 @@ from collections.abc import Callable
 from typing import Optional
 
 from rewind_client.searching import STATES, ahead, repeated
-from rewind_client.stories import Stories
 
 from .desk import Desk
-from .looking import row
+from .looking import tell_step
 from .words import HINTS
 
 SHOWN_COMMANDS = 30
@@ -56,8 +55,4 @@ class Searching:
         found = self.shell.blamed(states)
         self.screen.say(found.sentence)
         if found.step:
-            fact = self.shell.session.facts.of(found.step)
-            told = row(Stories(self.shell.session), self.shell.program, fact) if fact else found.step
-            self.screen.row(f"    {told}")
-            number = len(self.shell.session.preview(found.step))
-            self.screen.say(f"'back {found.step}' takes it back, {'alone' if number == 1 else f'with {number - 1} that depend on it'}")
+            tell_step(self.shell, found.step)

@@ -246,9 +246,9 @@ class Shell:
         """What comes of a search of all schedules from here."""
         return search_from(self.rewind, self.session, states, self.interrupts.pending)
 
-    def blamed(self, states: int) -> Blamed:
+    def blamed(self, states: int, seconds: Optional[float] = None) -> Blamed:
         """Which step of the log is to blame for where the session stands."""
-        return blame_from(self.rewind, self.session, states, self.interrupts.pending)
+        return blame_from(self.rewind, self.session, states, seconds, self.interrupts.pending)
 
     def follow(self, _words: list[str]) -> None:
         """Takes the steps of the schedule that a search found."""

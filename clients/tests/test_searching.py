@@ -138,6 +138,20 @@ def test_blame_in_the_shell(talk: Run) -> None:
     assert "blame may have the number of states" in told
 
 
+def test_why_ends_with_the_step_to_blame(talk: Run) -> None:
+    told = talk(example("lock_order"), "search", "follow", "why").stdout
+    blamed = re.search(r"^g0\.2#2 is to blame: before it some schedule ends well, and after it none does\.\n    g0\.2#2 +take ", told, re.MULTILINE)
+    assert blamed and "'back g0.2#2' takes it back, with" in told, told
+
+
+def test_why_says_that_no_schedule_ends_well(talk: Run) -> None:
+    assert talk(example("unbuffered"), "run 9", "why").stdout.splitlines()[-1] == "No schedule of the program ends well."
+
+
+def test_why_names_no_step_where_nothing_is_bad(talk: Run) -> None:
+    assert "to blame" not in talk(example("lost_update"), "why", "run 5000", "why").stdout
+
+
 def test_a_hunt_searches_first(hunt: Run, tmp_path: Path) -> None:
     assert re.search(r"^No schedule ends badly: all \d+ states seen\. Leaks and outputs ", hunt(example("lost_update")).stdout, re.MULTILINE)
     thief = tmp_path / "thief.go"

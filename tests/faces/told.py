@@ -43,11 +43,18 @@ def of_shell(program: str, path: Path, commands: Iterable[str]) -> Said:
 
 
 def answer_of(shell: Shell, out: io.StringIO, line: str) -> list[str]:
-    """What the shell writes in answer to a line, but for the note on long logs."""
+    """What the shell writes in answer to a line, but for what depends on time."""
     out.seek(0)
     out.truncate()
     shell.obey(line)
-    return [text for text in out.getvalue().splitlines() if not text.startswith("(")]
+    return timeless(out.getvalue())
+
+
+def timeless(answer: str) -> list[str]:
+    """The lines of an answer without the note on long logs, and without the step to blame, for which a search may take too long."""
+    lines = [text for text in answer.splitlines() if not text.startswith("(")]
+    last = next((at for at, text in enumerate(lines) if text.startswith("No schedule of the program") or " is to blame: " in text), None)
+    return lines[:last]
 
 
 def of_adapter(path: Path, commands: Iterable[str]) -> list[str]:
@@ -59,7 +66,7 @@ def of_adapter(path: Path, commands: Iterable[str]) -> list[str]:
         answer = ""
         for command in [*commands, "why"]:
             answer = client.body("evaluate", {"expression": command, "context": "repl"})["result"]
-        return [text for text in answer.splitlines() if not text.startswith("(")]
+        return timeless(answer)
     finally:
         client.close()
 
