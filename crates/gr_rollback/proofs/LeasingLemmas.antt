@@ -16,7 +16,6 @@ use Rattle.gr_rules.specs.Goroutines.{ready}
 use Rattle.gr_rules.specs.States.{same_go}
 use Rattle.gr_rules.specs.Steps.{machine}
 use Rattle.gr_laws.specs.Reached.{Logged}
-use Rattle.gr_code.specs.CodeFrames.{ProgramCode}
 use Rattle.gr_code.specs.Goroutines.{CodeGoroutine}
 use Rattle.gr_refine.specs.Contents.{Contents, with_goroutine}
 use Rattle.gr_refine.proofs.NameLemmas.{go_is}
@@ -25,7 +24,7 @@ use Rattle.gr_step.specs.declared.leasing.LentCopy.{LentCopy}
 use Rattle.gr_step.specs.Record.{Record}
 use Rattle.gr_step.specs.declared.store.Store.{Store}
 use Rattle.gr_step.specs.Kept.{Kept, one_more}
-use Rattle.gr_step.specs.Leasing.{AreRecords, no_record, one_more_record, Walk, IsLease, IsAsLent, loan_of, name_lent, goroutine_lent, goroutine_led_to, program_lent, records_led}
+use Rattle.gr_step.specs.Leasing.{AreRecords, no_record, one_more_record, Walk, IsLease, IsAsLent, loan_of, name_lent, goroutine_lent, goroutine_led_to, records_led}
 use Rattle.gr_step.specs.Leasing as leases
 use Rattle.gr_step.specs.Listings.{state_in}
 use Rattle.gr_step.specs.Running.{Running}
@@ -221,23 +220,3 @@ not_joined p w old new s store log pool first = stays p w old new s (record {
 pub takes_all : (p : Program) (w : Timeline p) (go : List ℕ) (count : ℕ) (m : Machine) → KeepsAll p w.past go count m.course → again_of m ≡ [] → TakesAll p w go count m
 takes_all p w go count m keeps none =
     record { steps = keeps.steps; state = keeps.state; join = keeps.join; stands = stands_alone p _ m keeps.holds none }
-
--- a lease without steps leads nowhere
-itself : (code : ProgramCode) (go : List ℕ) (from to : CodeGoroutine) (records : List Record) → Walk code go from records to → 0 ≡ length records → to ≡ from
-itself code go from _ _ leases.no_step none = refl
-itself code go from to _ (leases.one_more {records} r h walk is) none =
-    let long = one_longer records r in absurd (omega (arith, none, long))
-
-put_again : (s : Contents) (n : List ℕ) (g : CodeGoroutine) → s.goroutines n ≡ Some g → with_goroutine s n (Some g) ≡ s
-put_again s n g there = λ i. record s { goroutines = λ q. each q i }
-  where
-    each : (q : List ℕ) → (with_goroutine s n (Some g)).goroutines q ≡ s.goroutines q
-    each q = elim (cases_Bool (same_go q n)) [
-      | inl e ↦ ap (λ b. if b then Some g else s.goroutines q) e ∙ sym (ap s.goroutines (go_is q n e) ∙ there)
-      | inr e ↦ ap (λ b. if b then Some g else s.goroutines q) e
-    ]
-
-pub led_nowhere : (l : LentCopy) (s : Contents) → IsLease l → (loan_of l).steps ≡ 0 → s.goroutines (name_lent l) ≡ Some (goroutine_lent l) → led_on l s ≡ s
-led_nowhere l s lease none there =
-    put_again s (name_lent l) (goroutine_led_to l)
-    (there ∙ ap Some (sym (itself (lowered (program_lent l)) (name_lent l) (goroutine_lent l) (goroutine_led_to l) (records_led l) lease.walk (sym none ∙ lease.counted))))

@@ -21,7 +21,7 @@ use Rattle.gr_refine.specs.Contents.{Contents, goroutine_of}
 use Rattle.gr_step.specs.declared.store.Store.{Store}
 use Rattle.gr_step.specs.declared.leasing.LentCopy.{LentCopy}
 use Rattle.gr_step.specs.Guard.{IsUp}
-use Rattle.gr_step.specs.Leasing.{IsLease, IsAsLent, IsLoanOf, goes_alone, loan_of}
+use Rattle.gr_step.specs.Leasing.{CanCountOn, CanLeadOn, IsLease, IsAsLent, IsLoanOf, goes_alone, loan_of}
 use Rattle.gr_step.specs.Listings.{frame_in, state_in}
 use Rattle.gr_step.specs.Stores.{contents_at, program_at, state_at}
 use Rattle.gr_rollback.specs.declared.machine.Machine.{Machine}
@@ -29,6 +29,7 @@ use Rattle.gr_rollback.specs.Leasing.{GoAlone, IsLentAt, SomeGoesAlone}
 use Rattle.gr_rollback.specs.Machines.{Stands, store_of}
 use Rattle.gr_rollback.specs.Pasts.{Timeline}
 use Rattle.gr_rollback.specs.Readiness.{IsReadyIn}
+use Rattle.gr_rollback.proofs.CourseLemmas.{can_count}
 
 -- what holds holds where a result is an error
 pub on_err : {T E A : Type 0} (r : Result T E) → A → OnErr r A
@@ -254,6 +255,24 @@ pub is_fresh : (s : Store) (go : List ℕ) (r : Result (Option LentCopy) NoMemor
 is_fresh s go (Err e) some = tt
 is_fresh s go (Ok None) some = tt
 is_fresh s go (Ok (Some l)) some = some.1.steps
+
+-- the goroutine of a lease has a step of its own, and its count is small
+module _ (p : Program) (w : Timeline p) (m : Machine) (s : Stands p w m) (place : ℕ) (go : List ℕ) (at : IsLentAt w.past.state place (Some go)) where
+  lent_goes : goes_alone (state_at (store_of m)) go ≡ true
+  lent_goes = ap (λ t. goes_alone t go) (state_is p w m s) ∙ sym (at.alone.each go) ∙ stands_among at.names (place % length at.names) go at.at
+
+  can_lead : (l : LentCopy) → IsLoanOf (store_of m) go l → CanLeadOn l
+  can_lead l is = record {
+    own = is.alone ∙ lent_goes;
+    counts = subst {_, _} CanCountOn (sym is.reached)
+        ((can_count p w.past m.course s.holds).steps (loan_of l).name (loan_of l).goroutine is.as_lent.there);
+  }
+
+  pub leads : (r : Result (Option LentCopy) NoMemory) → IfOk r (λ o. IfSome o (λ l. IsLease l × IsLoanOf (store_of m) go l))
+      → IfOk r (λ o. IfSome o CanLeadOn)
+  leads (Err e) some = tt
+  leads (Ok None) some = tt
+  leads (Ok (Some l)) some = can_lead l some.1
 
 -- one place of the ready ones more
 module _ (q : List ℕ → Bool) (xs : List (List ℕ)) (i count : ℕ) (lt : i < length xs) where

@@ -20,7 +20,7 @@ mod UnwindLemmas
 mod BackLemmas
 mod DependenceLemmas
 mod AskLemmas
-pub mod LeasingLemmas
+mod LeasingLemmas
 pub mod LendingLemmas
 mod JoinLemmas
 mod ChoiceLemmas

@@ -4,7 +4,7 @@ ghost use Rattle.std.specs.Prelude.{◌≡◌, ◌+◌, ◌<◌, ◌≤◌, ◌�
 ghost use Rattle.std.specs.Prelude.{IsOk, List, OnErr, Some, option_copied, option_map, ℕ};
 ghost use Rattle.gr_pool.specs.Goroutines.{IsInOrder};
 ghost use Rattle.gr_program.specs.Programs.{Program as ProgramSeen};
-ghost use Rattle.gr_step.specs.Leasing.{IsLease, IsAsLent, goes_alone, loan_of, program_lent, records_led};
+ghost use Rattle.gr_step.specs.Leasing.{CanLeadOn, IsLease, IsAsLent, goes_alone, loan_of, program_lent, records_led};
 ghost use Rattle.gr_step.specs.Stores.{IsRun, SameListing, contents_at, program_at, state_at, taken_at};
 ghost use Rattle.gr_depend.specs.Logs.{records_of};
 ghost use Rattle.gr_depend.specs.Room.{CanTake};
@@ -123,6 +123,7 @@ impl Machine {
         requires { IsMachine self.now }
         ensures lease { IfOk result (λ o. IfSome o (λ l. IsLease l × IsAsLent l (store_of self.now))) }
         ensures fresh { IfOk result (λ o. IfSome o (λ l. (loan_of l).steps ≡ 0)) }
+        ensures leads { IfOk result (λ o. IfSome o CanLeadOn) }
         ensures which { (p : ProgramSeen) (w : Timeline p) → Stands p w self.now
             → IfOk result (λ o. IsLentAt w.past.state place (option_map (λ l. (loan_of l).name) o)) }
         ensures wants { (p : ProgramSeen) (w : Timeline p) → Stands p w self.now

@@ -1,7 +1,6 @@
 -- What the steps of a batch come to.
 use Rattle.std.proofs.Common.{◌≡◌, ℕ, zero, suc, ◌+◌, ◌-◌, ◌<◌, ◌≤◌, Bool, true, false, List, [], ◌++◌, length, refl, sym, ap, subst, ◌∙◌, inl, inr, arith, eq-eqb, ne_eqb}
 use Rattle.std.specs.Prelude.{◌↔◌, ◌⊎◌, if◌then◌else◌}
-use Rattle.std.proofs.lemmas.List.{append-nil}
 use Rattle.gr_base.specs.declared.events.Event.{Event}
 use Rattle.gr_program.specs.Programs.{Program}
 use Rattle.gr_rules.specs.Limits.{most_steps}
@@ -14,7 +13,7 @@ use Rattle.gr_rollback.specs.StepLeasing.{Loan, loan_kept, loan_of, IsAsLentIn}
 use Rattle.gr_rollback.specs.Stores.{program_at, contents_at}
 use Rattle.gr_rollback.specs.Contents.{Contents}
 use Rattle.gr_rollback.specs.LentCopy.{LentCopy}
-use Rattle.gr_rollback.specs.Leasing.{JoinAll, TakesAll, led_on, own_events}
+use Rattle.gr_rollback.specs.Leasing.{JoinAll, TakesAll, led_on}
 use Rattle.gr_rollback.specs.Machines as rollback
 use Rattle.gr_session.specs.declared.debuggee.Debuggee.{Debuggee}
 use Rattle.gr_session.specs.Journal.{World, past_of, course_of, again_past}
@@ -61,6 +60,10 @@ too_many grant steps wanted same more = omega (arith, same, more)
 pub not_too_many : (grant steps wanted : ℕ) → steps ≡ wanted → steps ≤ grant → grant < wanted → ⊥
 not_too_many grant steps wanted same few more = omega (arith, same, few, more)
 
+-- steps are some
+pub not_none : (steps wanted : ℕ) → steps ≡ wanted → 0 < wanted → steps ≡ 0 → ⊥
+not_none steps wanted same some none = omega (arith, same, some, none)
+
 -- after a step nothing may be taken again
 none_again : (taken : ℕ) (again : List Event) → 0 < taken → again_past taken again ≡ []
 none_again zero again some = absurd (omega (arith, some))
@@ -69,19 +72,12 @@ none_again (suc taken) again some = refl
 above : {steps wanted : ℕ} → steps ≡ wanted → (steps ≡ 0 → ⊥) → 0 < wanted
 above same some = omega (arith, same, some)
 
-kept_within : (limit kept more : ℕ) → more ≡ 0 → kept ≤ limit → kept + more ≤ limit
-kept_within limit kept more none short = omega (arith, none, short)
-
 passes : (limit rest kept steps wanted : ℕ) → rest + kept ≡ limit → rest < steps → steps ≡ wanted → limit < kept + wanted
 passes limit rest kept steps wanted all less same = omega (arith, all, less, same)
 
 -- what the log has room for
 pub fits_all : (limit rest kept counted steps wanted : ℕ) → rest + kept ≡ limit → counted ≡ kept → steps ≤ rest → steps ≡ wanted → counted + wanted ≤ limit
 fits_all limit rest kept counted steps wanted all count few same = omega (arith, all, count, few, same)
-
--- the log is within its limit
-pub kept_short : (limit rest kept : ℕ) → rest + kept ≡ limit → kept ≤ limit
-kept_short limit rest kept all = omega (arith, all)
 
 module _ (p : Program) (w : World p) (d : Debuggee) (s : Stands p w d) (b : Loan) where
   -- its goroutine is no longer as it was lent
@@ -145,32 +141,18 @@ module _ (p : Program) (w : World p) (d : Debuggee) (s : Stands p w d) (b : Loan
 
     -- they join it
     module _ (new : Debuggee) (grant : new.grant ≡ d.grant - steps) (lines : HasLines w.lines new.lines) where
-      joined : (more : List (Logged p)) (t : State) → JoinAll p (past_of p w) b.name b.steps more t
+      joined : 0 < b.steps → (more : List (Logged p)) (t : State) → JoinAll p (past_of p w) b.name b.steps more t
           → rollback.Stands p (record { past = record { log = w.log ++ more; state = t }; again = again_past b.steps w.again }) new.machine
           → CommitsTo p w b true Enough (Committed b.steps) new
-      joined more t join machine = record {
+      joined some more t join machine = record {
         world = with_steps p w b more t;
-        commits = all_join (contents_at (store_in d)) more (contains_here p w d s) (lent_here p w d s b lent) few_granted join;
+        commits = all_join (contents_at (store_in d)) more (contains_here p w d s) (lent_here p w d s b lent) some few_granted join;
         stands = record { machine = machine; lines = lines; grant = let was = s.grant in grant ∙ ap (λ g. g - steps) was ∙ ap (λ n. w.grant - n) same };
       }
 
       pub some_join : (steps ≡ 0 → ⊥) → TakesAll p (course_of p w) b.name b.steps new.machine → CommitsTo p w b true Enough (Committed steps) new
       some_join some takes =
           subst (λ n. CommitsTo p w b true Enough (Committed n) new) (sym same)
-          (joined takes.steps takes.state takes.join
+          (joined (above same some) takes.steps takes.state takes.join
           (subst (λ again. rollback.Stands p (record { past = record { log = w.log ++ takes.steps; state = takes.state }; again = again }) new.machine)
           (sym (none_again b.steps w.again (above same some))) takes.stands))
-
-      -- a batch without a step joins the log
-      pub none_joins : steps ≡ 0 → length w.log ≤ most_steps → rollback.Stands p (course_of p w) new.machine → CommitsTo p w b true Enough (Committed 0) new
-      none_joins none short machine =
-          let zero_steps : b.steps ≡ 0 = sym same ∙ none in
-          subst (λ n. CommitsTo p w b true Enough (Committed n) new) zero_steps
-          (joined [] w.state
-          (record {
-            events = ap (own_events b.name) (sym zero_steps);
-            leads = refl;
-            room = kept_within most_steps (length w.log) b.steps zero_steps short;
-          })
-          (subst (λ (x : List (Logged p) × List Event). rollback.Stands p (record { past = record { log = x.0; state = w.state }; again = x.1 }) new.machine)
-          (λ i. (sym (append-nil w.log) i, ap (λ n. again_past n w.again) (sym zero_steps) i)) machine))

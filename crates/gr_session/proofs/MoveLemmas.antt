@@ -161,7 +161,7 @@ module _ (p : Program) where
   batch_moves : (w u : World p) (batch : LocalRun) (stood : Bool) (memory : Memory) (a : Said) → IsRun p w.log w.state
       → Commits p w (loan_kept batch) stood memory u a
       → Moved (asks.Batch batch stood) a w u
-  batch_moves w u batch stood _ a run (commits.all_join {t = t} s steps contains lent few join) =
+  batch_moves w u batch stood _ a run (commits.all_join {t = t} s steps contains lent some few join) =
       let count : length steps ≡ (loan_kept batch).steps = sym (length-map steps (λ r. r.event)) ∙ ap length join.events ∙ length-replicate _ _ in (
         taking steps,
         subst (λ n. Makes p (asks.Batch batch stood) (Committed n) (taking steps)) count (moves.commits steps),

@@ -29,9 +29,9 @@ pub record MayJoin (p : Program) (w : World p) (s : Contents) (b : Loan) : Type 
 -- that, a run of the same program must go on. The rules do not see how a goroutine stands in code. So its content is that of a
 -- store to which the steps lead.
 pub data Commits (p : Program) (w : World p) (b : Loan) : Bool → Memory → World p → Said → Type 0 where
-  -- it did: the steps join the log, each where the ones before it lead
+  -- it did: the steps, of which there are some, join the log, each where the ones before it lead
   all_join : {t : State} (s : Contents) (steps : List (Logged p))
-      → Contains p (past_of p w) s → IsAsLentIn b p s → b.steps ≤ w.grant → JoinAll p (past_of p w) b.name b.steps steps t
+      → Contains p (past_of p w) s → IsAsLentIn b p s → 0 < b.steps → b.steps ≤ w.grant → JoinAll p (past_of p w) b.name b.steps steps t
       → Commits p w b true Enough (with_steps p w b steps t) (Committed b.steps)
   -- a growth for them was refused, and none of them joins
   has_no_memory : (s : Contents) → Contains p (past_of p w) s → MayJoin p w s b → Commits p w b true (EnoughFor 0) w (Committed 0)

@@ -23,6 +23,7 @@ use std::alloc::Global;
 fn commit_lent(alloc: Global, debuggee: &mut Debuggee, lease: &mut LentCopy) -> (Memory, Reply)
     requires debuggee { IsDebuggee debuggee.old }
     requires lease { IsLease lease.old }
+    requires some { 0 < (loan_of lease.old).steps }
     requires lent { IsAsLent lease.old (store_in debuggee.old) }
     ensures commits { (p : Program) → (w : World p) → Stands p w debuggee.old
         → CommitsTo p w (loan_of lease.old) true result.0 (said_of result.1) debuggee.new }
@@ -39,9 +40,6 @@ fn commit_lent(alloc: Global, debuggee: &mut Debuggee, lease: &mut LentCopy) -> 
     }
     if steps > room(debuggee) {
         return (Memory::Enough, Reply::Refused(Refusal::LogFull));
-    }
-    if steps == 0 {
-        return (Memory::Enough, Reply::Committed(0));
     }
     match debuggee.machine.keep_all(alloc, lease) {
         Ok(()) => {
@@ -99,6 +97,7 @@ pub(crate) fn commit(
 ) -> Outcome
     requires debuggee { IsDebuggee debuggee.old }
     requires lease { IsLease lease }
+    requires some { 0 < (loan_of lease).steps }
     requires own { (origin ≡ Origin.Own) → (program_lent lease ≡ program_at (store_in debuggee.old)) }
     ensures { BatchComesTo debuggee.old lease result debuggee.new }
 {
@@ -112,6 +111,7 @@ pub(crate) fn commit(
 fn commit_own(alloc: Global, debuggee: &mut Debuggee, lease: LentCopy) -> Outcome
     requires debuggee { IsDebuggee debuggee.old }
     requires lease { IsLease lease }
+    requires some { 0 < (loan_of lease).steps }
     requires own { program_lent lease ≡ program_at (store_in debuggee.old) }
     ensures { BatchComesTo debuggee.old lease result debuggee.new }
 {

@@ -9,7 +9,7 @@ ghost use Rattle.gr_rollback.specs.Stores.{SameListing};
 ghost use Rattle.gr_session.specs.Journal.{World};
 ghost use Rattle.gr_session.specs.Debuggees.{Stands, IsDebuggee, store_in};
 ghost use Rattle.gr_session.specs.Carried.{LeadsTo};
-ghost use Rattle.gr_rollback.specs.StepLeasing.{IsLease, IsAsLent};
+ghost use Rattle.gr_rollback.specs.StepLeasing.{CanLeadOn, IsLease, IsAsLent};
 ghost use Rattle.gr_session.specs.Wants.{KeepsContents};
 ghost use Rattle.gr_session.specs.Granting.{MayStep, IsTurnDue, CanLend, LeaseEnds};
 
@@ -104,6 +104,7 @@ pub(crate) fn lend(
     requires { IsDebuggee debuggee.now }
     ensures lease { IfOk result (λ o. IfSome o IsLease) }
     ensures there { IfOk result (λ o. IfSome o (λ l. IsAsLent l (store_in debuggee.now))) }
+    ensures leads { IfOk result (λ o. IfSome o CanLeadOn) }
     ensures lent { (p : Program) → (w : World p) → Stands p w debuggee.now → LeaseEnds p w place result }
 {
     if !may_step(debuggee) {

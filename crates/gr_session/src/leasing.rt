@@ -33,7 +33,7 @@ impl Gate for Open {
     fn after_commit(&self, _worker: u32, _receipt: &Receipt) {}
 }
 
-/// A copy of a goroutine that a session lends, with no step yet.
+/// A copy of a goroutine that a session lends, with no step yet. Its next step is local and no fault.
 #[derive(Drop)]
 pub struct Lease {
     pub(crate) copy: LentCopy,
@@ -48,7 +48,7 @@ impl Model for Lease {
     ghost use Rattle.gr_program.specs.contracts.types.Type as types;
     ghost use Rattle.gr_code.specs.contracts.code.Operand as operands;
     ghost use Rattle.std.specs.Coded.{codes};
-    ghost use Rattle.gr_rollback.specs.StepLeasing.{IsLease, loan_of};
+    ghost use Rattle.gr_rollback.specs.StepLeasing.{CanLeadOn, IsLease, loan_of};
     ghost use Rattle.gr_session.specs.Copies.{Lent};
 
     ghost Value = { Lent };
@@ -57,10 +57,10 @@ impl Model for Lease {
 
     ghost view = { λ l. record { copy = l.copy; place = l.place } };
 
-    ghost invariant = { λ l. IsLease l.copy × ((loan_of l.copy).steps ≡ 0) };
+    ghost invariant = { λ l. IsLease l.copy × ((loan_of l.copy).steps ≡ 0) × CanLeadOn l.copy };
 }
 
-/// Steps that a goroutine took on a copy.
+/// Steps that a goroutine took on a copy, at least one.
 #[derive(Drop)]
 pub struct Batch {
     pub(crate) copy: LentCopy,
@@ -72,8 +72,9 @@ impl Model for Batch {
     ghost use Rattle.gr_program.specs.contracts.types.Type as types;
     ghost use Rattle.gr_code.specs.contracts.code.Operand as operands;
     ghost use Rattle.std.specs.Coded.{codes};
+    ghost use Rattle.std.specs.Prelude.{◌<◌};
     ghost use Rattle.gr_rollback.specs.LentCopy.{LentCopy};
-    ghost use Rattle.gr_rollback.specs.StepLeasing.{IsLease};
+    ghost use Rattle.gr_rollback.specs.StepLeasing.{IsLease, loan_of};
 
     ghost Value = { LentCopy };
 
@@ -81,7 +82,7 @@ impl Model for Batch {
 
     ghost view = { λ b. b.copy };
 
-    ghost invariant = { λ b. IsLease b.copy };
+    ghost invariant = { λ b. IsLease b.copy × (0 < (loan_of b.copy).steps) };
 }
 
 impl Lease {
@@ -114,7 +115,7 @@ impl Batch {
         self.copy.go()
     }
 
-    /// How many steps it has.
+    /// How many steps it has: at least one.
     pub fn len(&self) -> usize
         ensures { result ≡ (loan_of self.now).steps }
     {
@@ -122,9 +123,9 @@ impl Batch {
     }
 }
 
-/// Takes steps of the goroutine on its copy, each local and no fault, up to the limit or until no such step is next. A limit
-/// of 0 counts as 1, and one of more than 256 as 256. It has no session. The gate is called after each step. Refused, the
-/// lease is gone.
+/// Takes steps of the goroutine on its copy, each local and no fault, up to the limit or until no such step is next. It takes
+/// at least one: a limit of 0 counts as 1, and one of more than 256 as 256. It has no session. The gate is called after each
+/// step. Refused, the lease is gone.
 pub fn run_batch<G: Gate>(
     alloc: Global,
     lease: Lease,

@@ -21,6 +21,7 @@ use Rattle.gr_refine.proofs.NameLemmas.{go_self, go_is}
 use Rattle.gr_refine.proofs.StandingLemmas.{local_step_keeps_standing}
 use Rattle.gr_refine.proofs.WithinLemmas.{local_step_is_there, local_stays_within}
 use Rattle.std.specs.Prelude.{slice_get}
+use Rattle.gr_goros.specs.Alone.{stays_alone}
 use Rattle.gr_goros.specs.Views.{Seen}
 use Rattle.gr_tables.specs.NamedChannels.{contents_of}
 use Rattle.gr_tables.specs.NamedGoroutines.{name_at, Sets}
@@ -43,6 +44,7 @@ use Rattle.gr_step.proofs.LocalStepLemmas.{locally_is, plain_kind}
 use Rattle.gr_step.proofs.LocalLemmas.{printed_as}
 use Rattle.gr_step.proofs.MayLemmas.{acts_at, chosen_by}
 use Rattle.gr_step.proofs.ObjectLemmas.{set_goroutines}
+use Rattle.gr_step.proofs.OwnStepLemmas.{stays_is}
 use Rattle.gr_step.proofs.OwnTakesLemmas.{count_is}
 use Rattle.gr_step.proofs.RunningLemmas.{never_unsound, code_fits}
 use Rattle.gr_step.proofs.StoreLemmas.{runs_on}
@@ -145,6 +147,9 @@ loan_is_lease s l go g run channels program code name lent reached records steps
         as_lent = record { program = same; runs = runs; there = ap (contents_at s).goroutines name ∙ there ∙ ap Some (sym lent) };
         steps = steps;
         records = records;
+        reached = reached ∙ sym lent;
+        alone = (λ i. stays_alone (lowered (same i)) (reached i))
+            ∙ stays_is (program_at s) (contents_at s) go run.running runs g there is_ready;
       },
     )
 

@@ -64,6 +64,7 @@ mod TakeItemLemmas
 mod WakeLemmas
 pub mod LeaseLemmas
 mod OwnStepLemmas
+mod StayLemmas
 mod StepIntsLemmas
 pub use Rattle.gr_record.proofs.ChainLemmas
 pub use Rattle.type_safety.proofs.CheckedRuns

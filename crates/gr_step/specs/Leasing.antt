@@ -12,6 +12,7 @@ use Rattle.gr_code.specs.CodeFrames.{ProgramCode}
 use Rattle.gr_code.specs.Goroutines.{CodeGoroutine, is_local, local}
 use Rattle.gr_refine.specs.Contents.{Contents}
 use Rattle.gr_refine.specs.Partners.{AreChannels}
+use Rattle.gr_goros.specs.Alone.{stays_alone}
 use Rattle.gr_goros.specs.Undoing.{undone, Fits}
 use Rattle.gr_lower.specs.Lowered.{lowered}
 use Rattle.gr_step.specs.declared.leasing.LocalRun.{LocalRun}
@@ -21,7 +22,7 @@ use Rattle.gr_record.specs.declared.record.Record.{Record}
 use Rattle.gr_step.specs.declared.store.Store.{Store}
 use Rattle.gr_record.specs.Listings.{program_in, IsCoded}
 use Rattle.gr_record.specs.Running.{Running}
-use Rattle.gr_step.specs.Stores.{program_at, contents_at}
+use Rattle.gr_step.specs.Stores.{program_at, contents_at, state_at}
 use Rattle.gr_record.specs.Taking.{IsRecord}
 
 -- the goroutine goes on by a step that reaches no further than itself and is no fault; the change tells how it goes back
@@ -37,9 +38,9 @@ pub record GoesAlone (code : ProgramCode) (g : CodeGoroutine) (c : Effect) (h : 
 abbrev pub CanCountOn : CodeGoroutine → Type 0
 CanCountOn g = g.steps + 1 < 2 ^ 64
 
--- whether it has such a step
+-- its next step is one
 abbrev pub HasOwnStep : ProgramCode → CodeGoroutine → Type 0
-HasOwnStep code g = (c : Effect) × (h : CodeGoroutine) × GoesAlone code g c h
+HasOwnStep code g = stays_alone code g ≡ true
 
 -- the record is that of such a step of the goroutine of this name
 pub record IsOwnRecord (code : ProgramCode) (go : List ℕ) (g : CodeGoroutine) (r : Record) (h : CodeGoroutine) : Type 0 where
@@ -121,6 +122,11 @@ pub record LeadsOn (old new : LentCopy) : Type 0 where
   pub records : records_led new ≡ records_led old ++ record_of ∷ []
   pub steps : (loan_of new).steps ≡ (loan_of old).steps + 1
 
+-- the goroutine has a further step of its own, and can count it
+pub record CanLeadOn (l : LentCopy) : Type 0 where
+  pub own : HasOwnStep (lowered (program_lent l)) (goroutine_led_to l)
+  pub counts : CanCountOn (goroutine_led_to l)
+
 pub record Stays (old new : LentCopy) : Type 0 where
   pub loan : loan_of new ≡ loan_of old
   pub records : records_led new ≡ records_led old
@@ -141,6 +147,8 @@ pub record IsLoanOf (s : Store) (go : List ℕ) (l : LentCopy) : Type 0 where
   pub as_lent : IsAsLent l s
   pub steps : (loan_of l).steps ≡ 0
   pub records : records_led l ≡ []
+  pub reached : goroutine_led_to l ≡ goroutine_lent l
+  pub alone : stays_alone (lowered (program_lent l)) (goroutine_led_to l) ≡ goes_alone (state_at s) go
 
 -- records of steps, one after the other, from the first contents to the second
 pub data AreRecords (p : Program) (s : Contents) : List Record → Contents → Type 0 where

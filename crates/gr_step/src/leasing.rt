@@ -12,7 +12,7 @@ ghost use Rattle.gr_lower.specs.Lowered.{lowered};
 ghost use Rattle.gr_record.specs.declared.record.Record.{Record as RecordSeen};
 ghost use Rattle.gr_record.specs.Running.{Running};
 ghost use Rattle.gr_refine.specs.Contents.{with_goroutine};
-ghost use Rattle.gr_step.specs.Leasing.{IsLease, SameLoan, LeadsOn, Stays, HasOwnStep, CanCountOn, IsLoanOf, IsAsLent};
+ghost use Rattle.gr_step.specs.Leasing.{IsLease, SameLoan, LeadsOn, Stays, CanLeadOn, IsLoanOf, IsAsLent};
 ghost use Rattle.gr_step.specs.Guard.{IsUp};
 ghost use Rattle.gr_step.specs.Leasing.{Walk, AreRecords, loan_of, loan_kept, name_lent, records_led, program_lent};
 ghost use Rattle.gr_step.specs.Leasing.{goroutine_led_to, goes_alone};
@@ -126,8 +126,7 @@ impl LentCopy {
         ensures lease { IsLease self.new }
         ensures loan { SameLoan self.old self.new }
         ensures goes { IfOk result (λ goes. IsTrue goes → LeadsOn self.old self.new) }
-        ensures none { IfOk result (λ goes. IsFalse goes → CanCountOn (goroutine_led_to self.old)
-            → ¬ HasOwnStep (lowered (program_lent self.old)) (goroutine_led_to self.old)) }
+        ensures none { IfOk result (λ goes. IsFalse goes → ¬ CanLeadOn self.old) }
         ensures stays { IfOk result (λ goes. IsFalse goes → Stays self.old self.new) }
         ensures err { OnErr result (Stays self.old self.new) }
     {

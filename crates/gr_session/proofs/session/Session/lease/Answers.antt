@@ -5,7 +5,8 @@ pub invariant_of-result : goal.invariant_of-result
 invariant_of-result c =
     let lease = rw c.in-Some.is at c.in_ok-copy.ensures.lease in
     let loan = rw c.in-Some.is at (c.in_ok-copy.ensures.lent _ c.self.invariant.world c.self.invariant.stands) in
-    (lease, loan.fresh)
+    let leads = rw c.in-Some.is at c.in_ok-copy.ensures.leads in
+    (lease, loan.fresh, leads)
 
 pub returns-in-Some-clause-lent : goal.returns-in-Some-clause-lent
 returns-in-Some-clause-lent c =

@@ -4,7 +4,7 @@ use Rattle.gr_base.specs.declared.events.Choice.TheVariants.{Plain}
 use Rattle.gr_code.specs.CodeFrames.{ProgramCode}
 use Rattle.gr_code.specs.CodeViews.{program_code_of}
 use Rattle.gr_code.specs.Goroutines.{is_local, local, task_of}
-use Rattle.gr_rules.specs.Outcomes.{wrong}
+use Rattle.gr_rules.specs.Outcomes.{gives, wrong}
 use Rattle.gr_goros.specs.Kinds.{kind_of}
 use Rattle.gr_goros.specs.Tasks.{IsStep}
 use Rattle.gr_lower.specs.Lowered.{lowered}
@@ -14,6 +14,7 @@ use Rattle.gr_step.specs.declared.leasing.Lent.{Lent}
 use Rattle.gr_step.specs.Leasing.{IsOwnRecord, Walk, name_lent, program_lent, goroutine_lent, goroutine_led_to, records_led}
 use Rattle.gr_step.proofs.LeaseLemmas.{has_task, has_step, lease_goes}
 use Rattle.gr_step.proofs.LocalLemmas.{still_no_fault}
+use Rattle.gr_step.proofs.StayLemmas.{fault_stays_not}
 use Rattle.gr_step.proofs.leasing.LentCopy.step.Goals as goal
 
 pub is_local-requires : goal.is_local-requires
@@ -34,6 +35,18 @@ local_step-requires-clause-right c =
     subst {_, _} (λ (code : ProgramCode). is_local code (goroutine_led_to l) ≡ true) code (sym c.is_local.ensures ∙ c.if-not-is_local.false) in
     subst {_, _} (λ (code : ProgramCode). ¬ (local code (goroutine_led_to l) ≡ wrong)) (sym more)
     (has_step (program_lent l) can.contents can.running can.channels can.runs (name_lent l) (goroutine_led_to l) can.there can.is_ready here)
+
+pub returns-in-Fault-clause-none : goal.returns-in-Fault-clause-none
+returns-in-Fault-clause-none c = λ bad leads.
+    let l = c.args.self.now in
+    let p = program_lent l in
+    let g = goroutine_led_to l in
+    let more = ap program_code_of (c.deref-4.ensures ∙ ap (λ (lent : Lent). lent.listing.code.value) c.deref-3.ensures) ∙ c.requires.coded in
+    let step : IsStep (c.in_ok-kind.kind, c.in_ok-kind.own) (local (lowered p) g) l.reached c.local_step.new.self =
+    subst {_, _} (λ (code : ProgramCode). IsStep (c.in_ok-kind.kind, c.in_ok-kind.own) (local code g) l.reached c.local_step.new.self) more
+    c.in_ok-kind.ensures.step in
+    let is = step.is ∙ (λ i. gives (kind_of (c.in-Fault.is i), c.local_step.new.self.content)) in
+    true≢false (sym leads.own ∙ fault_stays_not (lowered p) g c.local_step.new.self.content c.in-Fault.field-0 is)
 
 pub returns : goal.returns
 returns c =
