@@ -61,7 +61,7 @@ all_taken old log steps left taken empty is =
 abbrev weight : Wanted → Object → Record → ℕ
 weight which o r = length (wanted which (touch_at o 0 r))
 
-abbrev weights : Wanted → Object → List Record → ℕ
+abbrev pub weights : Wanted → Object → List Record → ℕ
 weights which o [] = 0
 weights which o (r ∷ rs) = weight which o r + weights which o rs
 
@@ -88,7 +88,7 @@ weigh_one which o s r ts n is = by (is_among o (touched_by r)) refl
     by true e = rw e (wanted_first which (record { place = s; writes = is_among o (written_by r) }) ts ∙ (λ i. same_weight which s (is_among o (written_by r)) i + is i))
     by false e = rw e (let k : length (wanted which ts) ≡ 0 + n = omega (arith, is) in k)
 
-weigh : (which : Wanted) (o : Object) (s : ℕ) (rs : List Record) → length (wanted which (touches_in o s rs)) ≡ weights which o rs
+pub weigh : (which : Wanted) (o : Object) (s : ℕ) (rs : List Record) → length (wanted which (touches_in o s rs)) ≡ weights which o rs
 weigh which o s [] = refl
 weigh which o s (r ∷ rs) = weigh_one which o s r (touches_in o (suc s) rs) (weights which o rs) (weigh which o (suc s) rs)
 

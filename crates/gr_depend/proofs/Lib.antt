@@ -1,5 +1,6 @@
 pub mod AppendLemmas
 pub mod RoomLemmas
+pub mod MiddleLemmas
 pub mod ConflictLemmas
 pub mod MarkedLemmas
 pub mod SpreadLemmas

@@ -6,6 +6,7 @@ mod conflicts;
 mod dependence;
 pub mod history;
 pub mod log;
+pub mod middle;
 mod named;
 pub mod order;
 mod turning;
