@@ -1,12 +1,13 @@
 -- Moves of the steps of a log into an order of their names.
 use Rattle.std.proofs.Common.{◌≡◌, ◌<◌, ◌≤◌, ◌+◌, ◌==◌, ◌↔◌, IsTrue, nat_lt, ℕ, zero, suc, Bool, true, false, List, [], ◌∷◌, ◌⊎◌, length, map, set, slice_get, replicate, Some, eqb-true, eq-eqb, ◌≢◌, refl, sym, ap, ap₂, subst, ◌∙◌, inl, inr, arith}
 use Rattle.std.proofs.lemmas.Bool.{cases_Bool, ltb-true, lt-ltb}
-use Rattle.std.proofs.lemmas.List.{get_or-set_same, get_or-set_other, get_or-replicate, length-set, length-replicate}
+use Rattle.std.proofs.lemmas.List.{get_or-set_same, get_or-set_other, get_or-replicate, length-map, length-set, length-replicate}
 use Rattle.std.proofs.lemmas.Option.{slice_get_within}
 use Rattle.gr_base.specs.declared.names.StepId.{StepId}
 use Rattle.gr_causal.specs.OrderByNames.{NamesEach, ChangePlaces, FirstToChange}
 use Rattle.gr_causal.specs.Orders.{IsOrder}
 use Rattle.gr_causal.specs.Sequences.{In, Distinct, Before, Rearranges}
+use Rattle.gr_causal.proofs.BackwardLemmas.{as_long}
 use Rattle.gr_causal.proofs.ListLemmas.{some_is, none_not, either, In-map, In-of_map, Distinct-by_name, Before-left, Before-right}
 use Rattle.gr_causal.proofs.PlaceLemmas.{In-at, place_of, Before-at, places_of, IsAt-get, get-IsAt}
 use Rattle.gr_record.specs.declared.record.Record.{Record}
@@ -57,6 +58,24 @@ mapped_at : {A B : Type 0} (f : A → B) (xs : List A) (i : ℕ) (x : A) → sli
 mapped_at f [] i x h = absurd (none_not _ h)
 mapped_at f (y ∷ xs) zero x h = ap (λ z. Some (f z)) (some_is _ _ h)
 mapped_at f (y ∷ xs) (suc i) x h = mapped_at f xs i x h
+
+-- the names of all steps, each once, are as many as the steps
+pub one_each : (rs : List Record) (names : List StepId) → Distinct (map name rs) → NamesEach name rs names → length names ≡ length rs
+one_each rs names distinct each =
+    let less = as_long names (map name rs) each.once (λ n i. (each.all n).1 i) in
+    let more = as_long (map name rs) names distinct (λ n i. (each.all n).0 i) in
+    let count = length-map rs name in
+    omega (arith, less, more, count)
+
+-- so are those of an order in which two steps change places
+pub as_many : (rs : List Record) (names : List StepId) (earlier later : ℕ) → Distinct (map name rs) → BreaksAt rs names earlier later
+    → length names ≡ length rs
+as_many rs names earlier later distinct breaks =
+    let less = as_long breaks.order rs breaks.steps.once (λ r i. (breaks.steps.all r).1 i) in
+    let more = as_long rs breaks.order (Distinct-by_name name rs distinct) (λ r i. (breaks.steps.all r).0 i) in
+    let count = length-map breaks.order name in
+    let named = ap length breaks.named in
+    omega (arith, less, more, count, named)
 
 module _ (rs : List Record) (names : List StepId) (from to : List ℕ) (distinct : Distinct (map name rs)) (m : AreMoves rs names from to) where
   abbrev order : List Record

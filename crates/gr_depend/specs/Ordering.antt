@@ -25,11 +25,11 @@ pub record BreaksAt (rs : List Record) (names : List StepId) (earlier later : �
   pub second_at : slice_get rs later ≡ Some second
   pub change : FirstToChange conflict_of rs order first second
 
--- why these steps are not put in the order of these names
+-- why these steps are not put in the order of these names; out of memory tells that there are as many names as steps
 abbrev pub IsWhy : OrderRefused → List Record → List StepId → Type 0
 IsWhy NotTheSteps rs names = ¬ NamesEach name rs names
 IsWhy (Breaks earlier later) rs names = BreaksAt rs names earlier later
-IsWhy NoMemory rs names = Unit {0}
+IsWhy NoMemory rs names = length names ≡ length rs
 
 -- the elements that stand at these places
 abbrev pub elements_at : {A : Type 0} → List ℕ → List A → List A

@@ -25,7 +25,7 @@ pub enum OrderRefused {
     /// step of the order that comes before a conflicting step which is earlier in the log. The first is the earliest such
     /// step of the log.
     Breaks { earlier: usize, later: usize },
-    /// A growth was refused.
+    /// A growth was refused. There are as many names as steps.
     NoMemory,
 }
 
@@ -80,7 +80,8 @@ impl Log {
     /// # Errors
     ///
     /// `NotTheSteps` where the names are not those of the steps, each once. Else `Breaks` where the order does not respect
-    /// dependence. `NoMemory` where a growth was refused. After an error the log is as before.
+    /// dependence. `NoMemory` where a growth was refused, which only as many names as there are steps can want. After an error
+    /// the log is as before.
     pub fn permuted(&mut self, alloc: Global, order: &[StepId]) -> Result<(), OrderRefused>
         requires { Distinct (map name (records_of self.old)) }
         ensures order { OnOk result (IsOrder conflict_of (records_of self.old) (records_of self.new)) }
@@ -101,8 +102,12 @@ impl Log {
     fn moves(&self, alloc: Global, order: &[StepId]) -> Result<Moves, OrderRefused>
         requires { Distinct (map name (records_of self.now)) }
         ensures ok { IfOk result (λ moves. AreMoves (records_of self.now) order.now moves.from.items moves.to.items) }
+        ensures count { OnOk result (length order.now ≡ length (records_of self.now)) }
         ensures err { IfErr result (λ why. IsWhy why (records_of self.now) order.now) }
     {
+        if order.len() != self.records.len() {
+            return Err(OrderRefused::NotTheSteps);
+        }
         let mut from = places(alloc, order.len(), 0)?;
         // The number of the names stands for a place that no name has given yet.
         let mut to = places(alloc, self.records.len(), order.len())?;
