@@ -21,7 +21,8 @@ interface Source { object: string; of: string; slot: number | null; step: string
 interface Step { id: string; goroutine: string; number: number; kind: string; row: number }
 interface Edge { from: string; to: string; kind: string }
 interface Note {
-  line: number; statement: Statement | null; frame: StackFrame; printed: string[];
+  line: number; statement: Statement | null; printed: string[];
+  before: StackFrame | null; after: StackFrame | null; isValued: boolean; // the frames that tell values, where these were read
   woke: string[]; channels: string[]; // the waits that it ended, and the channels that it worked on
   over: Operation; // what it does over a channel
   received: string; part: string; turn: number; // what it received, by which part of its statement, after so many others
@@ -33,7 +34,7 @@ interface Token { text: string; at: number; line: number; column: number }
 interface Statement { line: number; column: number; start: number; end: number; text: string; expandedLine: number; clauses: string[]; func: string; shown?: string }
 
 // What the panes show: the session at one moment.
-// Of many goroutines some are not shown: then `isPartial`, and whether none is ready is asked of the session.
+// Of many goroutines some are not shown: then `isPartial`, and whether none is ready is asked of all of them.
 interface Scene {
   goroutines: Goroutine[]; channels: Channel[]; console: Tail; hidden: number; isPartial: boolean; isStuck: boolean; clauses: Map<string, Clause[]>;
   missing: string; // why it cannot be shown, or ""

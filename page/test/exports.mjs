@@ -17,7 +17,7 @@ const exported = (hands, format) => hands.browser.run(`rewind.exportedRun(rewind
 async function answers() {
   const { session } = window.rewind.page;
   const ids = session.log.steps(0, Infinity).map((/** @type {Step} */ { id }) => id);
-  const replies = await session.mirror.answer((/** @type {any} */ remote) => remote.questions(ids.map((/** @type {string} */ id) => `causes ${id}`)));
+  const replies = await session.inCopy((/** @type {any} */ remote) => remote.questions(ids.map((/** @type {string} */ id) => `causes ${id}`)));
   return ids.map((/** @type {string} */ id, /** @type {number} */ at) => [id, replies[at].words.slice(2)]);
 }
 

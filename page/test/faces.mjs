@@ -20,19 +20,19 @@ const machine = /** @type {any} */ ({ program: null, script: "", suspends: true 
 async function told({ source, commands }) {
   const session = await Session.open(machine, source);
   for (const command of commands) await session.perform(command);
-  const { follower, log, order } = session;
+  const { reader, notes, log, order } = session;
   await session.look();
-  if (session.scene.isPartial) session.scene.isStuck = await session.mirror.isStuck();
-  while (!(await follower.inTurn(() => follower.annotate(0, log.length))));
+  if (session.scene.isPartial) session.scene.isStuck = await reader.isStuck();
+  await notes.find(0, log.length);
   const first = Math.max(0, log.length - LAST);
   await order.find(first, log.length);
   const standing = await standingOf(session, { go, faults });
-  const state = new Words(/** @type {any} */ ({ codes: {}, kinds: {}, faults, go })).state(session, standing, (id) => follower.notes.get(id));
+  const state = new Words(/** @type {any} */ ({ codes: {}, kinds: {}, faults, go })).state(session, standing, (id) => notes.get(id));
   const steps = log.steps(first, log.length).map(({ id }) => {
-    const { line, over, received } = follower.notes.get(id) || {};
+    const { line, over, received } = notes.get(id) || {};
     return { id, line, value: over ? received || over.sent : "" };
   });
-  const causes = await session.mirror.lists(log.steps(first, log.length).map(({ id }) => `causes ${id}`));
+  const causes = await reader.lists(log.steps(first, log.length).map(({ id }) => `causes ${id}`));
   const unlike = log.steps(first, log.length).filter(({ id }, at) => clockText(order.causes(id)) !== clockText(lastOf(causes[at]))).map(({ id }) => id);
   const waits = standing?.waits.map((wait) => [wait.goroutine, waitsFor(wait)]) || [];
   session.leave();

@@ -132,7 +132,7 @@ async function pasts(hands) {
   assert.deepEqual([await hands.browser.run("rewind.page.past.isOn"), (await hands.ids()).length], [false, 15], "a command comes back to now, and is done");
   const shorter = "(({ picture } = rewind.page.views) => { picture.mark({ ...picture.view, last: 100 }); picture.resized(); return picture.staying; })()";
   assert.equal(await hands.browser.run(shorter), "", "a log that is shorter than a past state can be shown in another size");
-  await hands.browser.run("rewind.page.session.follower.lost = 'g0#3', rewind.page.past.lookAt(5)");
+  await hands.browser.run("rewind.page.session.reader.sceneAt = async () => null, rewind.page.past.lookAt(5)");
   assert.equal(await hands.text("#then-text"), "This page cannot find the state after step 5, g0#5, of 15 steps.", "a state that cannot be found is not said to be shown");
 }
 
@@ -142,12 +142,12 @@ async function farPast(hands) {
   const { browser } = hands;
   await hands.source(LOOP);
   await hands.perform("run 400000");
-  const at = () => browser.run("rewind.page.session.follower.at");
+  const at = () => browser.run("rewind.page.session.reader.place");
   await browser.run("void rewind.page.past.lookAt(390000)");
   await hands.until("/^On the way to the state after step 390,000, .*: now at step \\d+,000\\.$/.test(document.getElementById('then-text').textContent)");
   assert.ok((await at()) < 390000, "while a past state is looked for, the panes are not said to show it");
   await hands.act("now");
-  await browser.run("rewind.page.session.follower.inTurn(async () => 0)");
+  await browser.run("rewind.page.session.inTurn(async () => 0)");
   const stopped = await at();
   assert.ok(stopped < 390000, "the way there ends where one comes back to now");
   await browser.run(`rewind.page.past.lookAt(${stopped + 1})`);

@@ -76,7 +76,7 @@ function commandFor(roll, ids, names) {
 // Runs in the page: what it shows.
 function shownInPage() {
   const { page } = window.rewind;
-  const { log, scene, breakpoints, follower } = page.session;
+  const { log, scene, breakpoints } = page.session;
   return {
     log: log.steps(0, log.length).map((/** @type {{id: string, kind: string}} */ { id, kind }) => `${id} ${kind}`),
     console: scene.console.lines,
@@ -84,7 +84,7 @@ function shownInPage() {
     channels: scene.channels.map((/** @type {Channel} */ it) => [it.name, it.items.join(" "), it.senders.join(" "), it.receivers.join(" ")]),
     clauses: [...scene.clauses].map(([name, ready]) => [name, ready.map((/** @type {{number: number}} */ { number }) => number)]),
     undone: log.gone.size, printed: log.steps(0, log.length).flatMap((/** @type {{id: string}} */ { id }) => page.note(id)?.printed || []),
-    breaks: [...breakpoints].sort(), noted: log.steps(0, log.length).filter((/** @type {{id: string}} */ { id }) => page.note(id) && page.session.order.edges.has(id)).length, lost: follower.lost,
+    breaks: [...breakpoints].sort(), noted: log.steps(0, log.length).filter((/** @type {{id: string}} */ { id }) => page.note(id) && page.session.order.edges.has(id)).length,
     errors: page.errors,
   };
 }
@@ -118,9 +118,9 @@ const LOOKS = ["rewind.act(rewind.page, 'fold')", "rewind.act(rewind.page, 'dire
   "document.getElementById('search-text').value = 'o', document.getElementById('search').onsubmit(new Event('submit'))",
   "document.querySelector('#goroutines .asked-value, #channels .asked-value')?.click()"];
 
-// The commands that the page gave to the user's session, in their order.
-const RECORDING = `(() => { const { user } = rewind.page.session, { ask } = user; window.given = [];
-  user.ask = function (line, shape) { window.given.push(line); return ask.call(this, line, shape); }; })()`;
+// The commands that the page gave to its session, in their order.
+const RECORDING = `(() => { const { session } = rewind.page, { command } = session; window.given = [];
+  session.command = function (line) { window.given.push(line); return command.call(this, line); }; })()`;
 
 // Moves that wait for nothing. The session beside gets the commands that came to the page's.
 /**
@@ -189,7 +189,7 @@ async function round(hands, t, program, seed, act) {
     const shown = await hands.browser.run(`(${shownInPage})()`);
     const told = await toldNatively(native, shown.goroutines.map((/** @type {any[]} */ [it]) => it), shown.channels.map((/** @type {any[]} */ [it]) => it));
     for (const [key, value] of Object.entries(told)) assert.deepEqual(shown[key], value, key);
-    assert.deepEqual([shown.noted, shown.lost], [shown.log.length, ""], "every step has its edges");
+    assert.equal(shown.noted, shown.log.length, "every step has its edges");
     assert.deepEqual(shown.errors, [], "the page has made no error of its own");
     await listsAgree(hands, native, shown.log, roll);
     await clausesAgree(native, shown);

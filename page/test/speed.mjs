@@ -155,7 +155,7 @@ async function passing(hands) {
   const { browser } = hands;
   await hands.source(LOOP);
   await hands.perform("run 100000");
-  const asked = "rewind.page.session.mirror.session.last";
+  const asked = "rewind.page.session.user.last";
   const before = await browser.run(asked);
   await browser.run(pointing(40001).replace("page.pointing.point(id);", "for (let row = 40100; row > 40000; row--) page.pointing.point(page.session.log.id(row));"));
   assert.ok((await browser.run(asked)) - before <= 4, "the pointer passes over a hundred steps, and few of them are asked for");
@@ -182,7 +182,7 @@ async function drawingMeanwhile(hands, t) {
 async function longBacks(hands) {
   await hands.source(LOOP);
   await hands.perform("run 220000");
-  const counts = "rewind.page.session.user.ask('log', 'columns').then(({ of }) => [rewind.page.session.log.length, of.length, rewind.page.session.gone])";
+  const counts = "rewind.page.session.inCopy((it) => it.ask('log', 'columns')).then(({ of }) => [rewind.page.session.log.length, of.length, rewind.page.session.gone])";
   for (const { line, count } of [{ line: "back g0#4", count: 5 }, { line: "redo", count: 220000 }]) {
     await hands.perform(line);
     assert.deepEqual(await hands.browser.run(counts), [count, count, ""], `after '${line}' of 220,000 steps the page has the steps of the program`);

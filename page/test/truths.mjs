@@ -100,7 +100,7 @@ async function breakpointsOfManyGoroutines(hands) {
     await hands.perform("break 8");
     await hands.perform("run 300000");
     assert.ok(/stopped at the breakpoint in line 8/.test(await hands.text("#status")), `a breakpoint is met among 232 goroutines, after ${turns} turns`);
-    const at = await hands.browser.run("rewind.page.session.mirror.session.ask('show g0.231').then(({ lines }) => rewind.page.session.statements.lineOf(Number(lines[0].split(' ')[4])))");
+    const at = await hands.browser.run("rewind.page.session.reader.standing('g0.231').then(({ line }) => line)");
     assert.equal(at, 8, "and the goroutine stands there");
   }
 }
@@ -181,12 +181,11 @@ async function deaths(hands) {
   await hands.idle();
   assert.deepEqual(await hands.texts("#console li"), ["More was printed than there is memory to show. Take steps back to see it."], "where more was printed than there is memory to show, the page says so");
   assert.deepEqual([await hands.browser.run("rewind.page.session.gone"), await hands.browser.run("rewind.page.session.log.length")], ["", 100400], "and the session goes on");
-  await hands.source(long);
-  await hands.browser.run("rewind.page.perform('run 100000'), 0");
-  await hands.idle();
+  await hands.browser.run("rewind.page.session.reader.ask = async (questions) => questions.map(() => ({ isOk: false, lines: [], last: 'no Q2', words: ['no', 'Q2'] }))");
+  await hands.perform("undo");
   const panes = await hands.browser.run("['goroutines', 'channels', 'console'].map((id) => document.getElementById(id).innerText)");
   assert.deepEqual(panes, Array(3).fill("This state cannot be shown."), "where there is no memory for the panes, they are empty and say so");
-  assert.ok(/^The session goes on, but its panes cannot be shown: there was no more memory/.test(await hands.text("#status")), "and the page says why");
+  assert.ok(/^The session goes on, but its panes cannot be shown: the session refused a question: no Q2/.test(await hands.text("#status")), "and the page says why");
 }
 
 // What the page throws once, in the midst of a command.
@@ -237,19 +236,15 @@ async function goingSteps(hands) {
 /** @param {Hands} hands */
 async function journals(hands) {
   await hands.source(LOOP);
-  const before = "rewind.page.session.mirror.session.askAll(Array(3).fill('show g0')).then((it) => it.length)";
   await hands.perform("run 100");
-  assert.equal(await hands.browser.run(before), 3, "looking asks another session");
-  const asked = [];
   await hands.browser.run("{ const ask = rewind.page.session.user.askAll; window.asked = []; rewind.page.session.user.askAll = function (commands, shape) { window.asked.push(...commands); return ask.call(this, commands, shape); }; }");
   await hands.perform("step g0.1");
   await hands.point("g0#3");
-  asked.push(...(await hands.browser.run("window.asked")));
-  assert.deepEqual(asked, ["step g0.1"], "the journal has the user's commands alone");
-  await hands.browser.run("rewind.page.session.mirror.remote.close()");
-  await hands.perform("undo");
-  assert.equal(await hands.browser.run("rewind.page.session.log.length"), 100, "a mirror that is lost is made anew");
-  assert.ok((await hands.goroutine("g0")).includes("total ="), "and answers");
+  await hands.browser.run("rewind.page.past.lookAt(7)");
+  await hands.idle();
+  const asked = await hands.browser.run("window.asked");
+  assert.deepEqual(asked.filter((/** @type {string} */ line) => !/^(about|at) /.test(line)), ["step g0.1"], "the journal has the user's commands alone");
+  assert.ok(asked.some((/** @type {string} */ line) => line === "at 101 show g0") && asked.includes("at 7 show g0"), "and queries tell what is shown");
 }
 
 const TRUTHS = {

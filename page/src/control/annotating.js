@@ -1,15 +1,16 @@
 // Finds in the background what the log does not tell, and shows it as it is found: clauses that are ready, statements, prints, edges.
 
 import { isUnanswered } from "../engine/remote.js";
+import { readyClauses } from "../session/copy.js";
 import { erred } from "./losses.js";
 import { pause } from "../element.js";
 import { shownOf } from "../picture/shown.js";
 import { standingOf } from "../waiting/standing.js";
+import { FOLLOWED } from "../session/notes.js";
 import { starterOf } from "./finding.js";
 import { phrase } from "../phrases.js";
 
-const WHOLE = 20000; // a log of up to this many steps is followed from its start; of a longer one what is in view
-const FOLLOWED = 300000; // a longer log is not followed at all
+const WHOLE = 20000; // in a log of up to this many steps each has a note; of a longer one those in view
 export const ALL_EDGES = 5000; // of a longer log only the edges into the steps around the view are found
 const NEAR = 10; // so many steps above and below it
 const AHEAD = 150000; // steps: in a longer log, causes and consequences are asked only when they are wanted
@@ -64,7 +65,7 @@ export class Annotating {
     const [from, to] = this.wanted(session).edges;
     await session.order.find(from, to);
     if (isOld()) return;
-    if (session.log.length <= FOLLOWED) await this.follow(session, isOld);
+    await this.note(session, isOld);
     if (isOld()) return;
     await this.findStanding(session, isOld);
     if (isOld()) return;
@@ -91,13 +92,13 @@ export class Annotating {
   async findClauses(session) {
     const { scene } = session;
     if (session.log.isOver) return;
-    if (scene.isPartial) scene.isStuck = await session.mirror.isStuck();
-    const clauses = await session.mirror.readyClauses(scene.goroutines);
+    if (scene.isPartial) scene.isStuck = await session.reader.isStuck();
+    const clauses = await readyClauses(session, scene.goroutines);
     scene.clauses = clauses;
     if (clauses.size && scene === this.page.session?.scene && !this.page.past.isOn) this.page.showScene(scene);
   }
 
-  // The rows that are to have notes, and those that are to have edges.
+  // The rows that are to have notes, and those that are to have values in them and edges.
   /** @param {import("../session/session.js").Session} session */
   wanted({ log }) {
     const [from, to] = this.page.views.picture.stepsInView();
@@ -109,16 +110,16 @@ export class Annotating {
    * @param {import("../session/session.js").Session} session
    * @param {() => boolean} isOld
    */
-  async follow(session, isOld) {
+  async note(session, isOld) {
     let shown = performance.now();
-    const ranges = [this.wanted(session).edges, this.wanted(session).notes]; // what is in view comes first
-    for (const [from, to] of session.log.length <= WHOLE ? ranges.slice(1) : ranges) {
-      while (!isOld() && !(await session.follower.inTurn(() => session.follower.annotate(from, to)))) {
-        if (performance.now() - shown < 400) continue;
-        this.page.views.picture.update({ log: session.log, ...shownOf(this.page) }, this.edges());
-        shown = performance.now();
-      }
-    }
+    const seen = () => {
+      if (performance.now() - shown < 400 || isOld()) return;
+      this.page.views.picture.update({ log: session.log, ...shownOf(this.page) }, this.edges());
+      shown = performance.now();
+    };
+    const { edges: near, notes: all } = this.wanted(session); // what is in view comes first
+    await session.notes.find(near[0], near[1], { hasValues: session.log.length <= FOLLOWED, isOld, seen });
+    await session.notes.find(all[0], all[1], { hasValues: false, isOld, seen });
   }
 
   // Asks the causes and consequences of the steps in view, one after another, so that a command waits for one answer at most.
@@ -151,7 +152,7 @@ export class Annotating {
   async findStanding(session, isOld) {
     const { scene, log } = session;
     const goesOn = !log.length || !(log.isOver || scene.isStuck);
-    const found = goesOn || log.length > FOLLOWED || session.follower.lost ? null : await standingOf(session, this.page.given);
+    const found = goesOn || log.length > FOLLOWED ? null : await standingOf(session, this.page.given);
     if (!isOld()) this.page.standing = found;
   }
 
@@ -193,16 +194,15 @@ export class Annotating {
   // Whether the statement of each step is found, or will be.
   get isWhole() {
     const { session } = this.page;
-    return Boolean(session && session.log.length <= WHOLE && !session.follower.lost);
+    return Boolean(session && session.log.length <= WHOLE);
   }
 
   // What the picture does not show, in words, or "".
   get missing() {
     const { session } = this.page;
     if (!session) return "";
-    const { log, follower } = session;
-    if (follower.lost) return phrase("From {step} on, lines and arrows cannot be found.", { step: follower.lost });
-    if (log.length > FOLLOWED) return phrase("Of a log of more than {most} steps no lines and prints are found, and arrows are drawn into the steps that are in view.", { most: FOLLOWED });
+    const { log } = session;
+    if (log.length > FOLLOWED) return phrase("Of a log of more than {most} steps no values and prints are read, and arrows are drawn into the steps that are in view.", { most: FOLLOWED });
     if (log.length > ALL_EDGES) return phrase("Of this long log, arrows are drawn into the steps that are in view.");
     return "";
   }

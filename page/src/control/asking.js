@@ -96,7 +96,7 @@ export function search(page, text) {
 // Of which steps the statements and prints are read, where these are not all.
 /** @param {Page} page */
 function amongRead({ session }) {
-  const read = session?.follower.notes.size || 0;
+  const read = session?.notes.size || 0;
   return !session || read >= session.log.length ? "" : phrase(", among the {count} whose statements are read", { count: read });
 }
 

@@ -1,7 +1,7 @@
-// The values of a variable over time: which steps gave it one, and which. The session that follows the log takes the steps back, from
-// the last one on.
+// The values of a variable over time: which steps gave it one, and which.
 
 import { button, make } from "../element.js";
+import { gives, lastRows } from "./finding.js";
 import { parseGoroutine } from "../engine/protocol.js";
 import { phrase } from "../phrases.js";
 
@@ -15,35 +15,21 @@ const MOST = 12; // values; of more the last
  * @param {string} name
  * @returns {Promise<Given[]>}
  */
-export function courseOf({ follower, log }, goroutine, name) {
-  return follower.inTurn(async () => {
-    await follower.moveTo(log.length);
-    const remote = await follower.session();
-    const left = follower.at;
-    follower.at = 0;
-    const { values, gone } = await valuesBackwards(remote, goroutine, name);
-    await remote.questions(Array(left - gone).fill("undo"));
-    return values;
-  });
-}
-
-/**
- * @param {import("../engine/remote.js").RemoteSession} remote
- * @param {string} goroutine
- * @param {string} name
- */
-async function valuesBackwards(remote, goroutine, name) {
+export async function courseOf(session, goroutine, name) {
+  const { log, reader } = session;
+  const rows = (await lastRows(session, gives(goroutine, name), MOST)).reverse();
+  const { version } = log;
+  const ids = rows.map((row) => log.id(row));
+  const isSame = () => version === log.version;
   /** @type {Given[]} */
   const values = [];
-  let gone = 0;
-  while (values.length < MOST) {
-    const [shown, reply] = await remote.askAll([`show ${goroutine}`, `back var ${goroutine} ${name}`]);
-    if (!reply.isOk) break;
-    gone += Number(reply.words[1]);
-    const variables = parseGoroutine(shown).frames.flatMap((frame) => frame.variables);
-    values.unshift({ id: reply.words[2], value: variables.find((it) => it.name === name)?.value ?? phrase("gone") });
+  for (const [at, row] of rows.entries()) {
+    const [reply] = (await reader.views(row + 1, [`show ${goroutine}`], isSame)) || [];
+    if (!reply?.isOk) return [];
+    const variables = parseGoroutine(reply).frames.flatMap((frame) => frame.variables);
+    values.push({ id: ids[at], value: variables.find((it) => it.name === name)?.value ?? phrase("gone") });
   }
-  return { values, gone };
+  return values;
 }
 
 // The values as a row, each with the step that gave it.

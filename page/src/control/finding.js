@@ -1,12 +1,12 @@
 // Finds the step behind what a pane shows: a variable, an item of a channel, a waiter, a goroutine, a printed line, a line of the source.
-// What it takes to know is asked of the session that follows the log, which takes back and does again.
 
-import { Log } from "../session/log.js";
-import { readScene } from "../session/scene.js";
-import { stepName } from "../engine/protocol.js";
+import { goroutineOf, stepName } from "../engine/protocol.js";
+import { sends } from "../session/facts.js";
+import { word } from "../session/edges.js";
 
 const LOOKED_AT = 50; // steps back, for the last one outside of what carrying added
-const MOST_SENDS = 1 << 24; // of one channel, among which the last is looked for
+const PORTION = 500; // rows
+const FURTHEST = 20000; // rows from the end, among which a step is looked for
 
 /** @typedef {import("../session/session.js").Session} Session */
 
@@ -32,31 +32,78 @@ export function lastOf({ log }, name) {
   return count ? stepName(name, count) : "";
 }
 
+// The rows whose steps are such ones, from the last one on, so many at most.
+/**
+ * @param {Session} session
+ * @param {(fact: About) => boolean} isSuch
+ * @param {number} most
+ */
+export async function lastRows({ log, reader: { facts } }, isSuch, most) {
+  /** @type {number[]} */
+  const found = [];
+  const last = Math.max(0, log.length - FURTHEST);
+  for (let to = log.length; to > last && found.length < most; to -= PORTION) {
+    const from = Math.max(last, to - PORTION);
+    await facts.need(from, to);
+    for (let row = Math.min(to, log.length) - 1; row >= from && found.length < most; row--) {
+      const fact = facts.at(row);
+      if (fact && isSuch(fact)) found.push(row);
+    }
+  }
+  return found;
+}
+
+// The last but so many of the steps that are such ones, counted from 1, or "".
+/**
+ * @param {Session} session
+ * @param {(fact: About) => boolean} isSuch
+ * @param {number} number
+ */
+async function fromEnd(session, isSuch, number) {
+  const rows = await lastRows(session, isSuch, number);
+  return rows.length < number || number < 1 ? "" : session.log.id(rows[number - 1]);
+}
+
 // The step that printed a line of the console, counted from 0.
 /**
  * @param {Session} session
  * @param {number} line
  */
-export function printerOf({ log, follower }, line) {
-  let seen = 0;
-  for (let row = 0; row < log.length; row++) {
-    const id = log.id(row);
-    seen += follower.notes.get(id)?.printed.length || 0;
-    if (seen > line) return id;
-  }
-  return "";
-}
+export const printerOf = (session, line) => fromEnd(session, ({ prints }) => prints, session.scene.console.count - line);
+
+// Whether a step gave a variable of a goroutine a value.
+/**
+ * @param {string} goroutine
+ * @param {string} name
+ */
+export const gives = (goroutine, name) => (/** @type {About} */ { id, given }) => goroutineOf(id) === goroutine && given.includes(name);
+
+// The last step that gave a variable a value.
+/**
+ * @param {Session} session
+ * @param {string} goroutine
+ * @param {string} name
+ */
+export const giverOf = (session, goroutine, name) => fromEnd(session, gives(goroutine, name), 1);
+
+// The step that sent an item of a channel: `number` is 1 for the last send.
+/**
+ * @param {Session} session
+ * @param {string} channel
+ * @param {number} number
+ */
+export const senderOf = (session, channel, number) => fromEnd(session, (fact) => sends(fact) && fact.channel?.name === channel && word(fact.kind) !== "fault", number);
 
 // The kept steps of a line of the source, in the order of the log.
 /**
  * @param {Session} session
  * @param {number} line
  */
-export function stepsOfLine({ log, follower, origin }, line) {
+export function stepsOfLine({ log, notes, origin }, line) {
   const found = [];
   for (let row = 0; row < log.length; row++) {
     const id = log.id(row);
-    if (origin.lineOf(follower.notes.get(id)?.line || 0) === line) found.push(id);
+    if (origin.lineOf(notes.get(id)?.line || 0) === line) found.push(id);
   }
   return found;
 }
@@ -67,11 +114,11 @@ export function stepsOfLine({ log, follower, origin }, line) {
  * @param {Goroutine | null | undefined} goroutine
  */
 export function placeOf(session, goroutine) {
-  const { log, follower, origin, program } = session;
+  const { log, notes, origin, program } = session;
   if (!goroutine) return 0;
   const { name, line, frames } = goroutine;
   let found = origin.lineOf(line);
-  for (let id = lastOf(session, name), count = 0; !found && line && id && count < LOOKED_AT; id = log.before(id), count++) found = origin.lineOf(follower.notes.get(id)?.line || 0);
+  for (let id = lastOf(session, name), count = 0; !found && line && id && count < LOOKED_AT; id = log.before(id), count++) found = origin.lineOf(notes.get(id)?.line || 0);
   for (let at = 1; !found && line && at < frames.length; at++) {
     const calls = program.callingLines(frames[at].name, frames[at - 1].name);
     if (calls.length === 1) found = origin.lineOf(calls[0]);
@@ -84,69 +131,13 @@ export function placeOf(session, goroutine) {
  * @param {Session} session
  * @param {string} text
  */
-export function stepsWith({ log, follower }, text) {
+export function stepsWith({ log, notes }, text) {
   const wanted = text.toLowerCase();
   const found = [];
   for (let row = 0; row < log.length; row++) {
     const id = log.id(row);
-    const note = follower.notes.get(id);
+    const note = notes.get(id);
     if ([id, log.kinds[row], note?.statement?.text || "", note?.statement?.shown || "", ...(note?.printed || [])].some((it) => it.toLowerCase().includes(wanted))) found.push(id);
   }
   return found;
-}
-
-// The step that a `back` would begin with, or "": it is tried in the session that follows the log.
-/**
- * @param {Session} session
- * @param {string} command
- */
-const firstOf = ({ follower }, command) => follower.inTurn(() => triedBack(follower, command));
-
-/**
- * @param {import("../session/follower.js").Follower} follower
- * @param {string} command
- */
-const triedBack = async (follower, command) => (await follower.without(command, async (_, gone) => gone[0])) || "";
-
-/**
- * @param {Session} session
- * @param {string} goroutine
- * @param {string} name
- */
-export const giverOf = (session, goroutine, name) => firstOf(session, `back var ${goroutine} ${name}`);
-
-// The step that sent an item of a channel: `fromEnd` is 1 for the last send. How many sends there were is found by halving.
-/**
- * @param {Session} session
- * @param {string} channel
- * @param {number} fromEnd
- */
-export async function senderOf({ follower }, channel, fromEnd) {
-  return follower.inTurn(async () => {
-    const tried = (/** @type {number} */ count) => triedBack(follower, `back send ${channel} ${count}`);
-    let [low, high] = [0, 1];
-    while (high < MOST_SENDS && (await tried(high))) [low, high] = [high, high * 2];
-    while (high - low > 1) {
-      const middle = (low + high) >> 1;
-      if (await tried(middle)) low = middle;
-      else high = middle;
-    }
-    return low - fromEnd + 1 > 0 ? tried(low - fromEnd + 1) : "";
-  });
-}
-
-// What the session would be without a step and its consequences: how many steps go, and the panes then.
-/**
- * @param {Session} session
- * @param {string} id
- * @returns {Promise<{count: number, scene: Scene} | null>}
- */
-export function withoutStep({ follower }, id) {
-  return follower.inTurn(() =>
-    follower.without(`back ${id}`, async (session, gone, left) => {
-      const log = new Log();
-      log.restart(left);
-      return { count: gone.length, scene: await readScene(session, log.names, log.channels, follower.statements) };
-    }),
-  );
 }

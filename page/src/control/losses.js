@@ -32,7 +32,7 @@ function gone(page, session) {
   page.showControls();
 }
 
-// What the page asks of its own sessions was not answered. The user's session goes on.
+// What the page asks of the session was not answered. The session goes on.
 /**
  * @param {Page} page
  * @param {string} reason

@@ -5,8 +5,6 @@ import { showBreaks } from "./breaks.js";
 import { isWait } from "../session/edges.js";
 import { lost } from "./losses.js";
 import { Unanswered } from "../engine/remote.js";
-import { parseGoroutine } from "../engine/protocol.js";
-import { placed } from "../session/scene.js";
 import { phrase, phraseKey } from "../phrases.js";
 
 const MOST = 2000; // steps of one move
@@ -16,16 +14,6 @@ const GOES_ON = phraseKey("{goroutine} goes on at {place}: the others ran until 
 const NO_GOROUTINE = "N2"; // the code of a question about a goroutine that is not there
 
 /** @typedef {import("./page.js").Page} Page */
-
-// Where a goroutine stands in the user's session.
-/**
- * @param {import("../session/session.js").Session} session
- * @param {string} name
- */
-async function standing(session, name) {
-  const [reply] = await session.mirror.answer((remote) => remote.questions([`show ${name}`]));
-  return placed(parseGoroutine(reply), session.statements);
-}
 
 // Tells what went wrong with a move. The chosen goroutine may have been taken back meanwhile.
 /**
@@ -75,7 +63,7 @@ async function stepping(page, session, isThere) {
     const kind = reply.words.slice(2).join(" ");
     if (isWait(kind)) return phrase("{goroutine} waits now: step another goroutine, or run.", { goroutine: chosen });
     if (session.log.isOver) return page.words.reply(`step ${chosen}`, reply);
-    const at = await standing(session, chosen);
+    const at = await session.reader.standing(chosen);
     if (at.state === "done") return phrase("{goroutine} is done.", { goroutine: chosen });
     if (isThere(at)) return phrase("{goroutine} stands at {place}.", { goroutine: chosen, place: session.origin.where(at.line || 0) });
     if (at.line && session.breakpoints.has(at.line)) return phrase("{goroutine} stopped at the breakpoint in {place}.", { goroutine: chosen, place: session.origin.where(at.line) });
@@ -91,7 +79,7 @@ export async function stepOver(page) {
   if (!session || page.hindrance) return page.say(page.hindrance, "bad");
   return page.doing(async () => {
     try {
-      const start = await standing(session, chosen);
+      const start = await session.reader.standing(chosen);
       if (start.state === "waiting") return await helpOn(page, session);
       const deep = start.frames.length;
       await stepUntil(page, ({ frames, statement }) => frames.length < deep || (frames.length === deep && statement !== start.statement));
@@ -112,10 +100,10 @@ const helpOn = (page, session) => page.moving(async () => {
     const reply = await session.perform("run 1");
     if (!reply.isOk || reply.words[1] === "0") break;
     page.views.transcript.add("run 1", reply);
-    if ((await standing(session, page.chosen)).state !== "waiting") break;
+    if ((await session.reader.standing(page.chosen)).state !== "waiting") break;
   }
   await page.refresh();
-  const { state, line } = await standing(session, page.chosen);
+  const { state, line } = await session.reader.standing(page.chosen);
   page.say(phrase(state === "waiting" ? STILL_WAITS : GOES_ON, { goroutine: page.chosen, place: session.origin.where(line || 0) }));
 });
 

@@ -3,6 +3,7 @@
 import { CHANGES, wordsOf } from "../engine/protocol.js";
 import { Annotating } from "./annotating.js";
 import { showBreaks, takeBreaks } from "./breaks.js";
+import { readyClauses } from "../session/copy.js";
 import { Session } from "../session/session.js";
 import { endOfRun } from "../panes/words.js";
 import { carriedOf } from "../panes/carrying.js";
@@ -320,7 +321,7 @@ export class Page {
 
   // The note of a step, as far as it is found.
   /** @param {string} id */
-  note = (id) => this.session?.follower.notes.get(id);
+  note = (id) => this.session?.notes.get(id);
 
   showPicture() {
     const { session, views } = this;
@@ -365,7 +366,7 @@ export class Page {
     const { session } = this;
     if (!session || this.hindrance) return this.say(this.hindrance, "bad");
     try {
-      const ready = session.scene.clauses.get(this.chosen) || (await session.mirror.readyClauses(session.scene.goroutines)).get(this.chosen) || [];
+      const ready = session.scene.clauses.get(this.chosen) || (await readyClauses(session, session.scene.goroutines)).get(this.chosen) || [];
       if (!ready.some((it) => it.number === number)) return this.say(phrase("{goroutine} has no ready case {number}.", { goroutine: this.chosen, number }), "bad");
       return await this.step(this.chosen, number);
     } catch (fault) {

@@ -45,7 +45,7 @@ export class Past {
     const isAsked = () => asked === this.asked && session === this.page.session;
     this.page.views.past.show(this.page);
     const telling = window.setInterval(() => isAsked() && this.page.views.past.show(this.page), TELLING);
-    const scene = await session.follower.inTurn(async () => session.follower.sceneAt(row, isAsked)).catch(noScene).finally(() => clearInterval(telling));
+    const scene = await session.reader.sceneAt(row, isAsked).catch(noScene).finally(() => clearInterval(telling));
     if (!isAsked()) return;
     this.isMissed = !scene;
     if (scene) return this.show(session, scene);

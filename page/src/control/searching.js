@@ -1,7 +1,6 @@
 // A search of all schedules from the present state: a run of the program of its own, in a worker that can be ended.
 
 import { RemoteSession, SessionGone } from "../engine/remote.js";
-import { stepCommand } from "../session/mirror.js";
 import { phrase, phraseKey } from "../phrases.js";
 
 const STATES = 1000000; // are searched at most
@@ -33,7 +32,7 @@ const [NONE_BAD, BAD, NOT_FINISHED] = [0, 4, 5]; // what the status of the progr
 /** @param {Page} page */
 export async function searchAll(page) {
   const { session } = page;
-  const taken = session ? session.log.steps(0, Infinity).map((step) => stepCommand(step, session.mirror.clauses)) : [];
+  const taken = session ? session.steps : [];
   const found = await search(page, taken);
   if (!found) return;
   const commands = found.output.split("\n").filter((line) => line).slice(taken.length);

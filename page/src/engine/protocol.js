@@ -3,8 +3,11 @@
 export const decoder = new TextDecoder();
 export const encoder = new TextEncoder();
 
-// The words of commands that only ask, and of those that may change which steps are kept.
-export const QUESTIONS = new Set(["deps", "causes", "show", "chan", "text", "console", "log", "about"]);
+// The words of commands that only ask, and among these of such whose answer may be long; of queries, which are no commands; and of commands
+// that may change which steps are kept.
+export const QUESTIONS = new Set(["deps", "causes", "show", "chan", "text", "console", "log", "about", "at"]);
+export const LENGTHY = new Set(["log", "console", "text"]);
+export const QUERIES = new Set(["about", "at"]);
 export const CHANGES = new Set(["step", "undo", "back", "redo", "order", "run"]);
 
 /** @param {string} line */

@@ -33,18 +33,16 @@ const WHOLE = /** @type {any} */ ({ mostStatement: Infinity, mostOutcome: Infini
 // Finds all notes and edges of a session.
 /** @param {Session} session */
 async function findAll(session) {
-  const { log, follower } = session;
-  const isOld = () => session.isLeft;
-  const { length } = log;
-  while (!isOld() && !(await follower.inTurn(() => follower.annotate(0, length))));
+  const { length } = session.log;
+  await session.notes.find(0, length, { isOld: () => session.isLeft });
   await session.order.find(0, length);
 }
 
 /** @param {Session} session */
-function lackOf({ log, follower }) {
+function lackOf({ log }) {
   if (!log.length) return phrase("There is no step to save yet.");
   if (log.length > ALL_EDGES) return phrase("A run can be saved up to {most} steps: this one has {count} steps.", { most: ALL_EDGES, count: log.length });
-  return follower.lost ? phrase("From {step} on, the facts of the steps cannot be found.", { step: follower.lost }) : "";
+  return "";
 }
 
 /**

@@ -3,7 +3,7 @@
 import { enable, find, make } from "../element.js";
 import { differences, previewList } from "./preview.js";
 import { isUnanswered } from "../engine/remote.js";
-import { withoutStep } from "../control/finding.js";
+import { withoutStep } from "../session/copy.js";
 import { inSteps, phrase, pieces } from "../phrases.js";
 
 /** @typedef {import("../control/page.js").Page} Page */
@@ -91,7 +91,7 @@ async function showPreview(page, id) {
   host.dataset.of = key;
   try {
     const without = await withoutStep(session, id);
-    if (host.dataset.of !== key || page.session !== session || !without) return;
+    if (host.dataset.of !== key || page.session !== session) return;
     const stay = session.log.length - without.count;
     const counts = make("p", {}, make("strong", {}, phrase("{count} step would go, and {stay} stay: | {count} steps would go, and {stay} stay:", { count: without.count, stay })));
     host.replaceChildren(counts, previewList(differences(session.scene, without.scene)));

@@ -72,7 +72,7 @@ function pastText({ past: it, session }) {
   if (!it.isOn || !session || it.row > session.log.length) return "";
   const count = session.log.length;
   const of = it.row ? phrase("the state after step {row}, {step}, of {count} step | the state after step {row}, {step}, of {count} steps", { row: it.row, step: session.log.id(it.row - 1), count }) : phrase("the state before the first step of {count} step | the state before the first step of {count} steps", { count });
-  const onTheWay = it.isMissed ? phrase("This page cannot find {state}.", { state: of }) : phrase("On the way to {state}: now at step {row}.", { state: of, row: session.follower.at });
+  const onTheWay = it.isMissed ? phrase("This page cannot find {state}.", { state: of }) : phrase("On the way to {state}: now at step {row}.", { state: of, row: session.reader.place });
   return it.found === it.row ? phrase("This is {state}. Nothing is changed.", { state: of }) : onTheWay;
 }
 

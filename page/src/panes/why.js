@@ -5,7 +5,6 @@ import { button, find, make } from "../element.js";
 import { escaped } from "../picture/labels.js";
 import { lastOf } from "../control/finding.js";
 import { phrase, pieces } from "../phrases.js";
-import { stepCommand } from "../session/mirror.js";
 import { waitsFor } from "../waiting/waits.js";
 import { withOwnTips } from "../picture/picture.js";
 import { wholeRun } from "../control/searching.js";
@@ -117,7 +116,7 @@ export function waitGraph(standing) {
 export async function findBlame(page) {
   const { session } = page;
   if (!session || page.hindrance) return page.say(page.hindrance, "bad");
-  const taken = session.log.steps(0, Infinity).map((step) => stepCommand(step, session.mirror.clauses));
+  const taken = session.steps;
   const found = await page.moving(() => wholeRun(page, session, "--blame", taken));
   if (!found) return;
   const id = found.output.trim();

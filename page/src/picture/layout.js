@@ -28,7 +28,6 @@ export const headOf = (letter) => Math.round(letter * 4.8);
  * @property {Map<string, string>} functions
  * @property {(id: string) => Note | undefined} notes
  * @property {(channel: string) => string} called the name of a channel, by a variable that holds it
- * @property {(step: Step) => StackFrame | null} standing the frame in which the goroutine of a last step stands now
  * @property {(kind: string) => string} does a kind in words
  */
 

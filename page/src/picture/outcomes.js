@@ -2,7 +2,6 @@
 
 import { lettersOf as widthOf, printedText, shortened } from "./labels.js";
 import { isWait, word } from "../session/edges.js";
-import { stepName } from "../engine/protocol.js";
 import { phrase } from "../phrases.js";
 
 const GIVEN = 2; // variables that a line names
@@ -27,14 +26,12 @@ function givenName({ log }, { goroutine, kind, row }, between) {
 
 // The variables that have another value behind a step, in the same frame.
 /**
- * @param {Step} step
  * @param {Note} note
  * @param {Place} place
  */
-function given(step, { frame }, place) {
-  const next = place.notes(stepName(step.goroutine, step.number + 1))?.frame || place.standing(step);
-  if (!frame || !next || next.depth !== frame.depth) return "";
-  const changed = next.variables.filter(({ name, value }, at) => frame.variables[at]?.name !== name || frame.variables[at].value !== value);
+function given({ before, after }, place) {
+  if (!before || !after || after.depth !== before.depth) return "";
+  const changed = after.variables.filter(({ name, value }, at) => before.variables[at]?.name !== name || before.variables[at].value !== value);
   const shown = changed.slice(0, GIVEN).map(({ name, value }) => `${name} = ${shortened(valueText(name, value, place), VALUE)}`);
   return shown.join(", ") + (changed.length > GIVEN ? ", …" : "");
 }
@@ -131,7 +128,7 @@ function outcomeOf(step, note, place) {
   const called = note.over.channel ? place.called(note.over.channel) : "";
   if (first === "fault") return plain(place.does(step.kind), "fault-text");
   if (isWait(step.kind)) return waiting(step.kind, note, called);
-  return OUTCOMES[first]?.(step, note, place, called) || plain(given(step, note, place), "given");
+  return OUTCOMES[first]?.(step, note, place, called) || plain(given(note, place), "given");
 }
 
 // The statement of a step. Of a select that took a case it is the case, and at the end of a function what the step did.

@@ -4,12 +4,13 @@ import { calledBy, holdersOf } from "../panes/holders.js";
 import { cycleHeight, drawLanes, drawNames } from "../picture/lanes.js";
 import { NOTHING_POINTED, withOwnTips } from "../picture/picture.js";
 import { drawLines } from "../picture/lines.js";
-import { Follower } from "../session/follower.js";
 import { layOut } from "../picture/layout.js";
+import { inCopy } from "../session/copy.js";
 import { Log } from "../session/log.js";
-import { Order } from "../session/order.js";
+import { Reader } from "../session/reader.js";
 import { Rows } from "../picture/rows.js";
 import { compareNames, stepName } from "../engine/protocol.js";
+import { stepCommand } from "../session/session.js";
 import { word } from "../session/edges.js";
 
 const ROW = 22; // pixels of a row
@@ -36,24 +37,24 @@ function clausesOf({ steps, commands }) {
 export async function followed(page, session, schedule) {
   const log = new Log();
   log.restart(schedule.steps);
-  const follower = new Follower(session.follower.machine, session.statements, log, clausesOf(schedule));
-  const order = new Order(log, follower.facts);
-  try {
-    while (!(await follower.annotate(0, log.length)));
+  const clauses = clausesOf(schedule);
+  const taken = schedule.steps.map((step) => stepCommand(step, clauses));
+  return inCopy(session.machine, session.statements, taken, async (remote) => {
+    const reader = new Reader(remote, session.statements, log, clauses);
+    const { notes, order } = reader;
+    await notes.find(0, log.length);
     await order.find(0, log.length);
-    const before = await follower.sceneAt(Math.max(0, log.length - 1), () => true); // behind the end of `main` no variable holds a channel
-    const scene = await follower.sceneAt(log.length, () => true);
+    const before = await reader.sceneAt(Math.max(0, log.length - 1)); // behind the end of `main` no variable holds a channel
+    const scene = await reader.sceneAt(log.length);
     const holders = holdersOf([...(scene?.goroutines || []), ...(before?.goroutines || [])]);
-    return { schedule, log, order, shown: shownOf(page, log, follower.notes, { scene, holders }), scene };
-  } finally {
-    follower.close();
-  }
+    return { schedule, log, order, shown: shownOf(page, log, notes, { scene, holders }), scene };
+  }, true);
 }
 
 // The function of each goroutine, by the statement that started it.
 /**
  * @param {Log} log
- * @param {Map<string, Note>} notes
+ * @param {import("../session/notes.js").Notes} notes
  * @param {Map<string, string>} known
  */
 function functionsOf(log, notes, known) {
@@ -71,18 +72,13 @@ function functionsOf(log, notes, known) {
 /**
  * @param {import("../control/page.js").Page} page
  * @param {Log} log
- * @param {Map<string, Note>} notes
+ * @param {import("../session/notes.js").Notes} notes
  * @param {{scene: Scene | null, holders: ReturnType<typeof holdersOf>}} end
  */
 function shownOf({ words, annotating, session }, log, notes, { scene, holders }) {
-  const byName = new Map((scene?.goroutines || []).map((it) => [it.name, it]));
   return {
     log, rows: new Rows(log), functions: functionsOf(log, notes, annotating.functions()), notes: (/** @type {string} */ id) => (session ? session.origin.readNote(notes.get(id), scene) : notes.get(id)),
     called: (/** @type {string} */ channel) => calledBy(holders, channel), does: (/** @type {string} */ kind) => words.kind(kind),
-    standing: (/** @type {Step} */ { goroutine, number }) => {
-      const one = byName.get(goroutine);
-      return one && one.steps === number && one.frames.length ? { depth: one.frames.length, variables: one.frames[0].variables } : null;
-    },
   };
 }
 

@@ -24,6 +24,19 @@ export class Facts {
     for (const [portion, facts] of this.portions) facts.splice(Math.max(0, row - portion * PORTION));
   }
 
+  // Keeps what was told of a row, where the rows before it in its portion are known.
+  /**
+   * @param {number} row
+   * @param {About} fact
+   */
+  put(row, fact) {
+    const portion = Math.floor(row / PORTION);
+    const known = this.portions.get(portion) || [];
+    if (known.length !== row % PORTION) return;
+    known.push(fact);
+    if (known.length === 1) this.keep(portion, known);
+  }
+
   // What was told of a row.
   /**
    * @param {number} row
@@ -57,8 +70,16 @@ export class Facts {
     if (first >= last) return;
     const told = await this.ask(first, last);
     if (changes !== this.changes) return;
+    this.keep(portion, [...known, ...told]);
+  }
+
+  /**
+   * @param {number} portion
+   * @param {About[]} facts
+   */
+  keep(portion, facts) {
     this.portions.delete(portion);
-    this.portions.set(portion, [...known, ...told]);
+    this.portions.set(portion, facts);
     if (this.portions.size > KEPT) this.portions.delete(/** @type {number} */ (this.portions.keys().next().value));
   }
 }

@@ -1,29 +1,25 @@
-// Causes and consequences of steps, each asked once: the replies are kept until the log changes. Causes that the order of the steps tells
-// are not asked.
+// Causes and consequences of steps. In a log of some length the order of the steps tells them. In a longer one the program lists them:
+// each list is asked once, and kept until the log changes.
+
+import { WHOLE } from "./order.js";
 
 const KEPT = 2000; // lists
 
-// Causes as a list: of each goroutine all steps up to the last one.
+// A list that has, of each goroutine, all steps between two.
 /**
- * @param {Map<string, number>} causes
+ * @param {[string, number[]][]} spans
  * @returns {Listed}
  */
-function listOf(causes) {
-  const count = [...causes.values()].reduce((sum, last) => sum + last, 0);
-  return { isOk: true, count, spans: new Map([...causes].map(([name, last]) => [name, [1, last]])), last: "ok" };
+function listOf(spans) {
+  const count = spans.reduce((sum, [, [first, last]]) => sum + last - first + 1, 0);
+  return { isOk: true, count, spans: new Map(spans), last: "ok" };
 }
 
 export class Known {
-  /**
-   * @param {import("./mirror.js").Mirror} mirror
-   * @param {import("./order.js").Order} order
-   * @param {import("./log.js").Log} log
-   */
-  constructor(mirror, order, log) {
-    this.mirror = mirror;
-    this.order = order;
-    this.log = log;
-    this.version = log.version; // of the log that the kept lists are of
+  /** @param {import("./reader.js").Reader} reader */
+  constructor(reader) {
+    this.reader = reader;
+    this.version = reader.log.version; // of the log that the kept lists are of
     /** @type {Map<string, Listed>} */
     this.lists = new Map();
   }
@@ -31,11 +27,16 @@ export class Known {
   // The list that answers a command, if it is known.
   /** @param {string} command */
   list(command) {
-    if (this.version !== this.log.version || this.lists.size > KEPT) this.lists.clear();
-    this.version = this.log.version;
+    const { log, order } = this.reader;
+    if (this.version !== log.version || this.lists.size > KEPT) this.lists.clear();
+    this.version = log.version;
     const [word, id] = command.split(" ");
-    const causes = word === "causes" && this.order.causes(id);
-    return causes ? listOf(causes) : this.lists.get(command);
+    if (word === "causes") {
+      const causes = order.causes(id);
+      return causes ? listOf([...causes].map(([name, last]) => [name, [1, last]])) : this.lists.get(command);
+    }
+    const consequences = order.consequences(id);
+    return consequences ? listOf([...consequences].map(([name, first]) => [name, [first, log.byName.get(name)?.rows.length || 0]])) : this.lists.get(command);
   }
 
   /** @param {string} id */
@@ -52,15 +53,17 @@ export class Known {
    * @returns {Promise<Listed[]>}
    */
   async of(id) {
+    const { log, order } = this.reader;
+    if (log.length <= WHOLE) await order.find(0, log.length);
     const commands = this.commands(id);
     const found = new Map(commands.map((command) => [command, this.list(command)]));
     const missing = commands.filter((command) => !found.get(command));
     const { version } = this;
-    const lists = missing.length ? await this.mirror.lists(missing) : [];
-    missing.forEach((command, at) => {
-      found.set(command, lists[at]);
-      if (version === this.log.version) this.lists.set(command, lists[at]);
-    });
+    for (const command of missing) {
+      const [list] = await this.reader.lists([command]); // one at a time, so that a command of a person waits for one alone
+      found.set(command, list);
+      if (version === log.version) this.lists.set(command, list);
+    }
     return commands.map((command) => /** @type {Listed} */ (found.get(command)));
   }
 }

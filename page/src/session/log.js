@@ -267,3 +267,25 @@ export class Log {
     return `order ${names.join(" ")}`;
   }
 }
+
+// The names of goroutines and channels that the first rows of a log gave.
+/**
+ * @param {Log} log
+ * @param {number} row
+ */
+export function namesAt(log, row) {
+  /** @type {{[word: string]: Map<string, number>}} */
+  const counts = { go: new Map(), make: new Map() };
+  const names = ["g0"];
+  const channels = [];
+  for (let at = 0; at < row; at++) {
+    const kind = log.kinds[at];
+    if (kind !== "go" && kind !== "make") continue;
+    const owner = log.columns[at].name;
+    const count = (counts[kind].get(owner) || 0) + 1;
+    counts[kind].set(owner, count);
+    if (kind === "go") names.push(`${owner}.${count}`);
+    else channels.push(`${owner}/c${count}`);
+  }
+  return { names: names.sort(compareNames), channels: channels.sort(compareNames) };
+}

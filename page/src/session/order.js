@@ -9,6 +9,7 @@ import { receives, sends, slotOf, wokenBy, wroteLast } from "./facts.js";
 
 export const WHOLE = 20000; // steps up to which a log is gone through from its start
 const BEFORE = 2000; // rows above those that are wanted, of a longer one
+const AT_ONCE = 500; // rows
 
 /** @typedef {Map<string, number>} Clock how many steps of each other goroutine a step depends on */
 /** @typedef {{id: string, readers: [string, string[]][]}} Taken a step that was gone through, and who had read what it touched */
@@ -68,14 +69,23 @@ export class Order {
     const { log, facts } = this;
     const first = log.length <= WHOLE ? 0 : Math.max(0, from - BEFORE);
     if (this.first > first || this.next < first) this.begin(first);
-    const last = Math.min(to, log.length);
-    if (this.next >= last) return;
-    await facts.need(this.next, last);
-    for (let row = this.next; row < last; row++) {
-      const fact = facts.at(row);
-      if (!fact || this.next !== row || log.id(row) !== fact.id) return;
+    const { version } = log;
+    for (let last = Math.min(to, log.length); this.next < last && version === log.version; ) {
+      const end = Math.min(last, this.next + AT_ONCE);
+      await facts.need(this.next, end);
+      if (!this.takeTo(end)) return;
+    }
+  }
+
+  // Goes on to a row, and says whether it came there.
+  /** @param {number} row */
+  takeTo(row) {
+    while (this.next < row) {
+      const fact = this.facts.at(this.next);
+      if (!fact || this.log.id(this.next) !== fact.id) return false;
       this.take(fact);
     }
+    return true;
   }
 
   // How many steps of each goroutine a step depends on, itself among them; nothing where that is not known.
@@ -83,6 +93,26 @@ export class Order {
   causes(id) {
     const clock = this.first ? undefined : this.clocks.get(id);
     return clock && new Map([...clock, [goroutineOf(id), numberOf(id)]]);
+  }
+
+  // Of each goroutine the first step that depends on a step, itself among them, where the whole log was gone through.
+  /**
+   * @param {string} id
+   * @returns {Map<string, number> | undefined}
+   */
+  consequences(id) {
+    if (this.first || this.next !== this.log.length) return undefined;
+    const found = new Map();
+    for (const { name, rows } of this.log.byName.values()) {
+      let [low, high] = [0, rows.length]; // later steps of a goroutine depend on more
+      while (low < high) {
+        const middle = (low + high) >> 1;
+        if (this.restsOn(stepName(name, middle + 1), id)) high = middle;
+        else low = middle + 1;
+      }
+      if (low < rows.length) found.set(name, low + 1);
+    }
+    return found;
   }
 
   /** @param {About} fact */

@@ -94,7 +94,7 @@ export class Origin {
     return texts ? variables.map(({ name, value }) => ({ name, value: texts.shown(texts.kind(func, name), value) })) : variables;
   }
 
-  // A note with the texts for which the numbers stand that the step handed over, and those in its frame. Channels are those of a scene.
+  // A note with the texts for which the numbers stand that the step handed over, and those in its frames. Channels are those of a scene.
   /**
    * @param {Note | undefined} note
    * @param {Scene | null | undefined} scene
@@ -105,8 +105,8 @@ export class Origin {
     if (!texts || !note) return note;
     const moved = this.moves.get(note.line);
     const kind = moved || (scene && texts.kindsOf(scene.goroutines).get(note.over.channel)) || "";
-    const frame = note.frame && { ...note.frame, variables: this.readVariables(note.statement?.func || "", note.frame.variables) };
-    return { ...note, frame, over: { ...note.over, sent: texts.shown(kind, note.over.sent) }, received: texts.shown(kind, note.received) };
+    const read = (/** @type {StackFrame | null} */ frame) => frame && { ...frame, variables: this.readVariables(note.statement?.func || "", frame.variables) };
+    return { ...note, before: read(note.before), after: read(note.after), over: { ...note.over, sent: texts.shown(kind, note.over.sent) }, received: texts.shown(kind, note.received) };
   }
 }
 

@@ -6,22 +6,25 @@ import { Unanswered } from "../engine/remote.js";
 const SHOWN = 200; // of more goroutines, and of more channels, the first are shown
 /** @type {Tail} */
 const UNPRINTED = { isOk: true, count: 0, lines: [] };
+/** @type {Tail} */
+export const TOO_MUCH = { isOk: false, count: 0, lines: [] };
 
-// Asks these goroutines and channels of a session that runs the expanded source.
+/** @typedef {(views: string[]) => Promise<any[]>} Ask gives the replies to `show G`, `chan C` and `console` of one state */
+
+// Asks the goroutines and channels of a state of a session that runs the expanded source, and, where `areFew`, what was printed.
 /**
- * @param {import("../engine/remote.js").RemoteSession} remote
- * @param {string[]} names
- * @param {string[]} channels
+ * @param {Ask} ask
+ * @param {{names: string[], channels: string[]}} named
  * @param {import("./statements.js").Statements} statements
+ * @param {{isAny: boolean, areFew: boolean}} prints
  * @returns {Promise<Scene>}
  */
-export async function readScene(remote, names, channels, statements) {
+export async function readScene(ask, { names, channels }, statements, { isAny, areFew }) {
   const [shown, made] = [names.slice(0, SHOWN), channels.slice(0, SHOWN)];
   const hidden = names.length - shown.length + channels.length - made.length;
   const states = [...shown.map((name) => `show ${name}`), ...made.map((name) => `chan ${name}`)];
-  const prints = /\bprintln\b/.test(statements.runText);
-  const replies = await remote.askAll([...states, ...(prints ? ["console"] : [])], "tail"); // which looks through the whole log
-  const console = prints ? replies[states.length] : UNPRINTED; // where too much was printed, it is refused
+  const replies = await ask([...states, ...(isAny && areFew ? ["console"] : [])]); // the last looks through the whole log
+  const console = !isAny ? UNPRINTED : areFew ? replies[states.length] : TOO_MUCH;
   const refused = replies.slice(0, states.length).find((reply) => !reply.isOk);
   if (refused) throw new Unanswered(refused.last);
   const goroutines = shown.map((_, at) => placed(parseGoroutine(replies[at]), statements));

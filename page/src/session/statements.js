@@ -188,9 +188,14 @@ export class Statements {
     this.isExpanded = true;
   }
 
-  // The source that the page's own sessions run.
+  // The source that sessions of the page run.
   get runText() {
     return this.isExpanded ? this.expanded : this.source;
+  }
+
+  // How many lines it has.
+  get length() {
+    return this.runText.split("\n").length;
   }
 
   // Of a source whose expanded form is not accepted: the lines are its own.

@@ -1,11 +1,12 @@
 // What would become of the goroutines that are not done at the end of `main`, if it waited for them. Of the clients it is `endings.py`.
 // The exit is taken back in a session of its own, and the others go on as far as they can. Only one that waits for ever is a leak.
 
-import { Follower } from "../session/follower.js";
 import { Log } from "../session/log.js";
+import { Reader } from "../session/reader.js";
 import { View } from "./waits.js";
 import { compareNames, goroutineOf } from "../engine/protocol.js";
 import { endsAll } from "../session/edges.js";
+import { WHOLE } from "../session/order.js";
 
 // Steps that the other goroutines get, and how many one gets before the next one.
 export const DRAIN = 2000;
@@ -13,48 +14,65 @@ const DRAIN_PORTION = 8;
 
 /** @typedef {"end" | "wait" | "go on" | "fault"} Ending */
 /** @typedef {{goroutine: string, ending: Ending, line: number, fault: string}} Fate */
+/** @typedef {{fates: Fate[], waits: import("./waits.js").Wait[]}} Fates */
 
 // What would become of each goroutine of `names`, and what those wait for that would wait for ever; nothing where that is not found.
 /**
- * @param {Follower} follower
+ * @param {import("../session/session.js").Session} session
+ * @param {string[]} names
+ * @returns {Promise<Fates | null>}
+ */
+export async function fatesOf(session, names) {
+  if (!names.length) return { fates: [], waits: [] };
+  const steps = session.log.steps(0, session.log.length - 1);
+  return session.inCopy(async (remote) => {
+    await remote.ask("undo");
+    const log = new Log();
+    log.restart(steps);
+    const reader = new Reader(remote, session.statements, log, session.clauses);
+    steps.forEach(({ row }) => keepFact(reader, session.reader.facts.at(row), row));
+    return fatesBehind(reader, session.program, names);
+  }, true);
+}
+
+// What was told of a step of the session holds of the same step here.
+/**
+ * @param {Reader} reader
+ * @param {About | undefined} fact
+ * @param {number} row
+ */
+const keepFact = ({ facts }, fact, row) => fact && facts.put(row, fact);
+
+/**
+ * @param {Reader} reader
  * @param {import("./flows.js").Program} program
  * @param {string[]} names
- * @returns {Promise<{fates: Fate[], waits: import("./waits.js").Wait[]} | null>}
+ * @returns {Promise<Fates | null>}
  */
-export async function fatesOf(follower, program, names) {
-  if (!names.length) return { fates: [], waits: [] };
-  const log = new Log();
-  log.restart(follower.log.steps(0, follower.log.length - 1));
-  const other = new Follower(follower.machine, follower.statements, log, follower.clauses);
-  other.notes = new Map(follower.notes);
-  try {
-    const end = await drain(other);
-    const view = end === "" ? await readView(other, program) : null;
-    if (end) return { fates: [await faultOf(other, end)], waits: [] };
-    return view && { fates: fatesIn(view, names), waits: (await view.waits()).filter(({ goroutine }) => goroutine !== "g0") };
-  } finally {
-    other.close();
-  }
+async function fatesBehind(reader, program, names) {
+  const { log, notes } = reader;
+  const end = await drain(reader);
+  if (end) return { fates: [await faultOf(reader, end)], waits: [] };
+  if (log.length <= WHOLE) await notes.find(0, log.length, { hasValues: false });
+  const view = await View.read(reader, program);
+  return view && { fates: fatesIn(view, names), waits: (await view.waits()).filter(({ goroutine }) => goroutine !== "g0") };
 }
 
 // Lets the goroutines beside `main` go on until none is ready, or for many steps. Gives the step that stopped the program, or "".
-/** @param {Follower} other */
-async function drain(other) {
-  await other.moveTo(other.log.length);
-  const session = await other.session();
+/** @param {Reader} reader */
+async function drain({ remote, log }) {
   const done = new Set(["g0"]);
-  const started = startedIn(other.log);
+  const started = startedIn(log);
   for (let taken = 0; taken < DRAIN; ) {
     const commands = started.filter((name) => !done.has(name)).flatMap((name) => Array(DRAIN_PORTION).fill(`step ${name}`));
-    const replies = await session.askAll(commands);
+    const replies = await remote.askAll(commands);
     const before = taken;
     for (const [at, { isOk, words }] of replies.entries()) {
       if (words[1] === "N4") done.add(commands[at].slice("step ".length));
       if (!isOk) continue;
       taken++;
-      other.log.append(goroutineOf(words[1]), words.slice(2).join(" "));
-      other.at++;
-      if (words[2] === "go") started.push(other.log.names.filter((name) => !started.includes(name) && name !== "g0")[0]);
+      log.append(goroutineOf(words[1]), words.slice(2).join(" "));
+      if (words[2] === "go") started.push(log.names.filter((name) => !started.includes(name) && name !== "g0")[0]);
       if (endsAll(words[2])) return words[1];
     }
     if (before === taken) break;
@@ -78,15 +96,6 @@ function startedIn(log) {
 }
 
 /**
- * @param {Follower} other
- * @param {import("./flows.js").Program} program
- */
-async function readView(other, program) {
-  while (!(await other.annotate(0, other.log.length)));
-  return View.read(other, program);
-}
-
-/**
  * @param {View} view
  * @param {string[]} names
  */
@@ -100,11 +109,11 @@ function fatesIn(view, names) {
 }
 
 /**
- * @param {Follower} other
+ * @param {Reader} reader
  * @param {string} id
  * @returns {Promise<Fate>}
  */
-async function faultOf(other, id) {
-  await other.annotate(other.log.length - 1, other.log.length);
-  return { goroutine: goroutineOf(id), ending: "fault", line: other.notes.get(id)?.line || 0, fault: other.log.kindOf(id).slice("fault ".length) };
+async function faultOf({ log, notes }, id) {
+  await notes.find(log.length - 1, log.length, { hasValues: false });
+  return { goroutine: goroutineOf(id), ending: "fault", line: notes.get(id)?.line || 0, fault: log.kindOf(id).slice("fault ".length) };
 }

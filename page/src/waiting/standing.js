@@ -20,17 +20,15 @@ import { fatesOf } from "./endings.js";
  * @returns {Promise<Standing | null>}
  */
 export async function standingOf(session, given) {
-  const { follower, log, program } = session;
+  const { reader, log, program } = session;
   const sentences = new Sentences(program, given);
   if (log.end?.kind.startsWith("fault")) return null;
   if (log.end) {
-    const found = await follower.inTurn(async () => {
-      const view = await View.read(follower, program);
-      return view && fatesOf(follower, program, view.goroutines.map(({ name }) => name).filter((name) => name !== "g0"));
-    });
+    const view = await View.read(reader, program);
+    const found = view && (await fatesOf(session, view.goroutines.map(({ name }) => name).filter((name) => name !== "g0")));
     return found && { state: "ended", ...found, cycle: [], lines: sentences.ended(found.fates, found.waits) };
   }
-  const waits = await follower.inTurn(async () => (await View.read(follower, program))?.waits());
+  const waits = await (await View.read(reader, program))?.waits();
   if (!waits) return null;
   const cycle = cycleAmong(waits);
   return { state: session.scene.isStuck ? "deadlock" : "running", waits, cycle, fates: [], lines: sentences.deadlock(waits, cycle) };

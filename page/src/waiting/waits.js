@@ -6,6 +6,7 @@ import { Transfers, callsBefore } from "./transfers.js";
 import { goroutineOf, parseChannel, parseGoroutine, parseWaiter, stepName } from "../engine/protocol.js";
 import { WHOLE } from "../session/order.js";
 import { placed } from "../session/scene.js";
+import { Unanswered } from "../engine/remote.js";
 
 export const NIL = "nil";
 const MOST = 2000; // of more goroutines or channels nothing is told
@@ -115,37 +116,39 @@ export class Wishes {
   }
 }
 
-// All that is known of a program as it stands behind the last step of a follower's log.
+// All that is known of a program as it stands behind the last step of a log.
 export class View extends Wishes {
   /**
-   * @param {import("../session/follower.js").Follower} follower
+   * @param {import("../session/reader.js").Reader} reader
    * @param {import("./flows.js").Program} program
    * @param {Goroutine[]} goroutines
    * @param {Channel[]} channels
    */
-  constructor(follower, program, goroutines, channels) {
+  constructor(reader, program, goroutines, channels) {
     super(program, goroutines, channels);
-    this.follower = follower;
+    this.reader = reader;
     /** @type {Map<string, Place[]>} */
     this.places = new Map(this.goroutines.map((it) => [it.name, this.placesOf(it)]));
     /** @type {Map<string, Wish[]>} */
     this.wishes = new Map();
   }
 
-  // Reads a view; nothing where there is too much to tell of.
+  // Reads a view; nothing where there is too much to tell of, or the log has changed.
   /**
-   * @param {import("../session/follower.js").Follower} follower
+   * @param {import("../session/reader.js").Reader} reader
    * @param {import("./flows.js").Program} program
    */
-  static async read(follower, program) {
-    const { log, statements } = follower;
-    await follower.moveTo(log.length);
-    if (follower.lost || follower.at !== log.length || log.names.length > MOST || log.channels.length > MOST) return null;
-    const session = await follower.session();
-    const shown = await session.questions(log.names.map((name) => `show ${name}`), "tail");
-    const made = await session.questions(log.channels.map((name) => `chan ${name}`), "tail");
-    const goroutines = shown.map((reply) => placed(parseGoroutine(reply), statements));
-    return new View(follower, program, goroutines, made.map((reply, at) => parseChannel(log.channels[at], reply)));
+  static async read(reader, program) {
+    const { log, statements } = reader;
+    const { names, channels, version } = log;
+    if (names.length > MOST || channels.length > MOST) return null;
+    const views = [...names.map((name) => `show ${name}`), ...channels.map((name) => `chan ${name}`)];
+    const replies = await reader.views(log.length, views, () => version === log.version);
+    if (!replies) return null;
+    const refused = replies.find(({ isOk }) => !isOk);
+    if (refused) throw new Unanswered(refused.last);
+    const goroutines = names.map((_, at) => placed(parseGoroutine(replies[at]), statements));
+    return new View(reader, program, goroutines, channels.map((name, at) => parseChannel(name, replies[names.length + at])));
   }
 
   // The waits of all goroutines, in the order of their names.
@@ -154,8 +157,8 @@ export class View extends Wishes {
     this.wishes = new Map(waiting.map((it) => [it.name, this.wishesOf(it)]));
     this.roles = new Roles(this.program, this.goroutines, this.places, [...this.channels.values()]);
     const wished = [...this.wishes.values()].flat().map(({ channel }) => channel);
-    this.transfers = new Transfers(this.follower.log.length > WHOLE ? [] : new Set(wished.filter((name) => name !== NIL)));
-    await this.transfers.read(this.follower.log, this.follower.facts);
+    this.transfers = new Transfers(this.reader.log.length > WHOLE ? [] : new Set(wished.filter((name) => name !== NIL)));
+    await this.transfers.read(this.reader.log, this.reader.facts);
     return waiting.map(({ name, steps }) => {
       const wishes = (this.wishes.get(name) || []).map((wish) => this.served(name, wish));
       return { goroutine: name, places: this.places.get(name) || [], since: stepName(name, steps), wishes };
@@ -180,7 +183,7 @@ export class View extends Wishes {
   // The lines of the outer frames before a step, the innermost first.
   /** @param {string} id */
   callers(id) {
-    return callsBefore(this.follower.log, id).map((call) => this.follower.notes.get(call)?.line || 0);
+    return callsBefore(this.reader.log, id).map((call) => this.reader.notes.get(call)?.line || 0);
   }
 
   // Who serves it.
@@ -259,7 +262,7 @@ export class View extends Wishes {
    * @returns {Hold[]}
    */
   hold(waiting, wish, step, value = "") {
-    const note = this.follower.notes.get(step);
+    const note = this.reader.notes.get(step);
     return note ? [{ step, line: note.line, callers: this.callers(step), stand: this.stand(waiting, wish, goroutineOf(step)), value }] : [];
   }
 

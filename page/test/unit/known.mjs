@@ -17,23 +17,24 @@ function made() {
   for (const step of ["g0#1 make", "g0#2 go", "g0.1#1 pure", "g0#3 pure"]) log.apply(`step ${step.split("#")[0]}`, parseReplies(`ok ${step}\n`)[0]);
   /** @type {string[]} */
   const asked = [];
-  const clocks = new Map();
-  const mirror = {
+  const [clocks, firsts] = [new Map(), new Map()];
+  const order = { causes: (/** @type {string} */ id) => clocks.get(id), consequences: (/** @type {string} */ id) => firsts.get(id), find: async () => {} };
+  const reader = {
+    log, order,
     /** @param {string[]} commands */
     async lists(commands) {
       asked.push(...commands);
       return commands.flatMap((command) => shaped(ANSWERS[command], "listed"));
     },
   };
-  const order = { causes: (/** @type {string} */ id) => clocks.get(id) };
-  return { log, asked, clocks, known: new Known(/** @type {any} */ (mirror), /** @type {any} */ (order), log) };
+  return { log, asked, clocks, firsts, known: new Known(/** @type {any} */ (reader)) };
 }
 
 /** @param {{count: number, spans: Map<string, number[]>}[]} some */
 const told = (some) => some.map(({ count, spans }) => [count, [...spans].sort()]);
 
 test("causes and consequences of a step are asked once, and none that the order tells", async () => {
-  const { log, asked, clocks, known } = made();
+  const { log, asked, clocks, firsts, known } = made();
   const first = await known.of("g0#2");
   assert.deepEqual(told(first), [[2, [["g0", [1, 2]]]], [3, [["g0", [2, 3]], ["g0.1", [1, 1]]]]], "the causes and the consequences of a step");
   assert.deepEqual([told(await known.of("g0#2")), asked.splice(0)], [told(first), ["causes g0#2", "deps g0#2"]], "a step that is pointed at again is not asked for");
@@ -41,6 +42,8 @@ test("causes and consequences of a step are asked once, and none that the order 
   clocks.set("g0.1#1", new Map([["g0", 2], ["g0.1", 1]]));
   assert.deepEqual(told(await known.of("g0.1#1")), [[3, [["g0", [1, 2]], ["g0.1", [1, 1]]]], [1, [["g0.1", [1, 1]]]]], "causes that the order tells are those of a reply");
   assert.deepEqual(asked.splice(0), ["deps g0.1#1"], "and are not asked for");
+  firsts.set("g0#2", new Map([["g0", 2], ["g0.1", 1]]));
+  assert.deepEqual(told(await known.of("g0#2"))[1], told(first)[1], "so are consequences that the order tells");
   log.apply("undo", parseReplies("ok g0#3\n")[0]);
   assert.equal(known.has("g0#2"), false, "of a log that has changed nothing of before is kept");
 });

@@ -74,6 +74,19 @@ test("all that a step depends on", async () => {
   assert.deepEqual(order.edges.get("g0#4")?.map(({ from }) => from), ["g0.1#2"], "who had read before is known again");
 });
 
+test("all that depends on a step", async () => {
+  const { log, order } = orderOf(ROWS);
+  assert.equal(order.consequences("g0#1"), undefined, "is known of a log that was gone through alone");
+  await order.find(0, log.length);
+  const steps = log.steps(0, log.length);
+  for (const { id, goroutine, number } of steps) {
+    /** @type {{[name: string]: number}} */
+    const wanted = {};
+    for (const it of steps) if ((order.causes(it.id)?.get(goroutine) || 0) >= number) wanted[it.goroutine] ??= it.number;
+    assert.deepEqual(Object.fromEntries(order.consequences(id) || []), wanted, id);
+  }
+});
+
 test("of a long log the rows above the view alone are gone through", async () => {
   /** @type {Row[]} */
   const rows = Array.from({ length: WHOLE + 1000 }, (_, at) => ({ id: `g0#${at + 1}`, kind: "pure", touches: [["goroutine", "g0", at ? `g0#${at}` : null, "wrote"]] }));

@@ -14,7 +14,7 @@ import { drawLines } from "../../src/picture/lines.js";
 import { NOTHING_POINTED, sideOf } from "../../src/picture/picture.js";
 
 /** @type {any} */
-const KNOWN = { functions: new Map(), notes: () => undefined, called: (/** @type {string} */ it) => it, standing: () => null, does: (/** @type {string} */ it) => it };
+const KNOWN = { functions: new Map(), notes: () => undefined, called: (/** @type {string} */ it) => it, does: (/** @type {string} */ it) => it };
 
 /** @param {...[goroutine: string, kind: string]} steps */
 function logOf(...steps) {
@@ -126,10 +126,10 @@ test("lanes and columns of text", () => {
 test("what came of a step", () => {
   const log = logOf(["g0", "take"], ["g0", "pure"], ["g0", "recv-wait"], ["g0", "pure"]);
   const frame = (/** @type {string[]} */ ...values) => ({ depth: 1, variables: values.map((value, at) => ({ name: `x${at}`, value })) });
-  const note = { statement: { text: "x0 := <-c" }, printed: [], part: "", received: "", taken: "", over: { channel: "g0/c1", sent: "", isSend: false }, frame: frame() };
+  const note = { statement: { text: "x0 := <-c" }, printed: [], part: "", received: "", taken: "", over: { channel: "g0/c1", sent: "", isSend: false }, before: null, after: null };
   /** @type {Map<string, any>} */
-  const notes = new Map([["g0#1", { ...note, received: "7" }], ["g0#2", note], ["g0#3", { ...note, frame: frame("7") }], ["g0#4", { ...note, printed: ["7"], frame: frame("7") }]]);
-  const known = { ...KNOWN, notes: (/** @type {string} */ id) => notes.get(id), called: () => "c (g0/c1)", standing: () => frame("8") };
+  const notes = new Map([["g0#1", { ...note, received: "7" }], ["g0#2", { ...note, before: frame(), after: frame("7") }], ["g0#3", note], ["g0#4", { ...note, printed: ["7"], before: frame("7"), after: frame("8") }]]);
+  const known = { ...KNOWN, notes: (/** @type {string} */ id) => notes.get(id), called: () => "c (g0/c1)" };
   const place = layOut({ ...known, log, rows: new Rows(log) }, { rowHeight: 22 });
   const told = log.steps(0, 4).map((step) => lineOf(step, notes.get(step.id), place).outcome.map(({ name, text }) => `${name}: ${text}`));
   assert.deepEqual(told, [["received: ← 7", "muted: from c (g0/c1)"], ["given: x0 = 7"], ["waits: waits for c (g0/c1)"], ["given: x0 = 8", "printed: “7”"]]);
