@@ -4,6 +4,7 @@ import { spawn } from "node:child_process";
 import { mkdtempSync, rmSync, writeFileSync } from "node:fs";
 import { tmpdir } from "node:os";
 import { join } from "node:path";
+import { encoder } from "../src/engine/protocol.js";
 import { shaped, shapedAnswers } from "../src/engine/shapes.js";
 
 const folder = mkdtempSync(join(tmpdir(), "rewind-faces-"));
@@ -57,8 +58,8 @@ class NativeSession {
    * @param {string} shape
    */
   async shaped(commands, shape) {
-    const text = await this.ask(commands);
-    return this.isClient ? shapedAnswers(text, shape) : shaped(text, shape);
+    const bytes = encoder.encode(await this.ask(commands));
+    return this.isClient ? shapedAnswers(bytes, shape) : shaped(bytes, shape);
   }
 
   replies() {

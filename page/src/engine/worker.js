@@ -2,7 +2,7 @@
 // program once, with other words.
 
 import { CLIENT, DEBUG, Session, wholeRun } from "./engine.js";
-import { decoder, encoder } from "./protocol.js";
+import { encoder } from "./protocol.js";
 import { shaped, shapedAnswers } from "./shapes.js";
 
 /** @type {Session} */
@@ -17,8 +17,8 @@ async function open({ program, source, suspends, ...given }) {
 
 /** @param {{commands: string[], shape: string}} asked */
 async function answer({ commands, shape }) {
-  const text = decoder.decode(await session.exchange(encoder.encode(commands.join("\n") + "\n")));
-  return isClient ? shapedAnswers(text, shape) : shaped(text, shape);
+  const bytes = await session.exchange(encoder.encode(commands.join("\n") + "\n"));
+  return isClient ? shapedAnswers(bytes, shape) : shaped(bytes, shape);
 }
 
 self.addEventListener("message", async ({ data }) => {

@@ -5,7 +5,7 @@ import { test } from "node:test";
 import { Known } from "../../src/session/known.js";
 import { Log } from "../../src/session/log.js";
 import { parseReplies } from "../../src/engine/protocol.js";
-import { shaped } from "../../src/engine/shapes.js";
+import { shapedText } from "../../src/engine/shapes.js";
 
 /** @type {{[command: string]: string}} */
 const ANSWERS = {
@@ -24,7 +24,7 @@ function made() {
     /** @param {string[]} commands */
     async lists(commands) {
       asked.push(...commands);
-      return commands.flatMap((command) => shaped(ANSWERS[command], "listed"));
+      return commands.flatMap((command) => shapedText(ANSWERS[command], "listed"));
     },
   };
   return { log, asked, clocks, firsts, known: new Known(/** @type {any} */ (reader)) };
@@ -53,7 +53,7 @@ test("lists as long as those of 100,000 steps", () => {
   const steps = [];
   for (let row = 0; row < 9000; row++) steps.push(row % 3 ? `g0#${steps.length - Math.floor(row / 3)}` : `g0.1#${row / 3 + 1}`);
   const names = [...steps.slice(0, 4000), "g0.2#1", "g0.2#2", ...steps.slice(4000)];
-  const [list] = shaped(`ok ${names.length} ${names.join(" ")}\n`, "listed");
+  const [list] = shapedText(`ok ${names.length} ${names.join(" ")}\n`, "listed");
   assert.deepEqual([...list.spans].sort(), [["g0", [1, 6000]], ["g0.1", [1, 3000]], ["g0.2", [1, 2]]], "a goroutine in the midst of a long list is found");
-  assert.deepEqual(shaped("ok 0\nno N1\n", "listed").map(({ isOk, count, last }) => [isOk, count, last]), [[true, 0, "ok"], [false, 0, "no N1"]], "an empty list, and a refusal");
+  assert.deepEqual(shapedText("ok 0\nno N1\n", "listed").map(({ isOk, count, last }) => [isOk, count, last]), [[true, 0, "ok"], [false, 0, "no N1"]], "an empty list, and a refusal");
 });

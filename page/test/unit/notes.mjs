@@ -6,7 +6,7 @@ import { test } from "node:test";
 import { Log } from "../../src/session/log.js";
 import { parseReplies } from "../../src/engine/protocol.js";
 import { Reader } from "../../src/session/reader.js";
-import { shaped } from "../../src/engine/shapes.js";
+import { shapedText } from "../../src/engine/shapes.js";
 import { Statements } from "../../src/session/statements.js";
 
 const SOURCE = "package main\nfunc main() {\nx := 2\nprintln(2)\nprintln(3)\nprintln(5)\n}\n";
@@ -33,7 +33,7 @@ function made() {
   const remote = {
     machine: { suspends: true },
     /** @param {string[]} commands */
-    askAll: async (commands, shape = "replies") => (shape === "told" ? [{ about: about() }] : commands.flatMap((it) => shaped(answer(it), shape))),
+    askAll: async (commands, shape = "replies") => (shape === "told" ? [{ about: about() }] : commands.flatMap((it) => shapedText(answer(it), shape))),
   };
   return { log, asked, reader: new Reader(/** @type {any} */ (remote), statements, log, new Map()) };
 }

@@ -2,8 +2,9 @@
 
 import assert from "node:assert/strict";
 import { test } from "node:test";
-import { compareNames, parseChannel, parseFault, parseGoroutine, parseReplies, parseWaiter, textOf } from "../../src/engine/protocol.js";
-import { shaped, shapedAnswers } from "../../src/engine/shapes.js";
+import { compareNames, encoder, parseChannel, parseFault, parseGoroutine, parseReplies, parseWaiter, textOf } from "../../src/engine/protocol.js";
+import { columnsIn } from "../../src/engine/columns.js";
+import { shapedAnswers, shapedText } from "../../src/engine/shapes.js";
 
 test("a goroutine, and a refusal", () => {
   const [first, second] = parseReplies("| g0.2 waiting 3 line 5\n| transfer from=g0/c2 x=100\n| main\nok\nno N2\n");
@@ -32,22 +33,22 @@ test("a fault, and none", () => {
 });
 
 test("a list of steps as the first and last of each goroutine", () => {
-  const [list] = shaped("ok 4 g0#1 g0.1#1 g0#2 g0#3\n", "listed");
+  const [list] = shapedText("ok 4 g0#1 g0.1#1 g0#2 g0#3\n", "listed");
   assert.deepEqual([list.count, [...list.spans].sort()], [4, [["g0", [1, 3]], ["g0.1", [1, 1]]]]);
 });
 
 test("a log as columns", () => {
-  const [log] = shaped("| g0#1 make\n| g0.1#1 pick 2\n| g0#2 make\nok 3\n", "columns");
+  const log = columnsIn(encoder.encode("| g0#1 make\n| g0.1#1 pick 2\n| g0#2 make\nok 3\n"));
   assert.deepEqual([log.names, log.kinds, [...log.of], [...log.kindOf]], [["g0", "g0.1"], ["make", "pick 2"], [0, 1, 0], [0, 1, 0]]);
-  const [refused] = shaped("no Q1\n", "columns");
+  const refused = columnsIn(encoder.encode("no Q1\n"));
   assert.equal(refused.isOk, false, "a refused question is told from an empty answer");
 });
 
 test("the answers to a client", () => {
   const stepped = '{"reply":{"answer":"stepped","id":"g0#1","kind":"make"},"text":"ok g0#1 make\\n"}';
   const printed = '{"reply":{"answer":"lines","lines":["\\"text\\":"]},"text":"| \\"text\\":\\nok\\n"}';
-  const [first, second] = shapedAnswers(`${stepped}\n${printed}\n`, "replies");
+  const [first, second] = shapedAnswers(encoder.encode(`${stepped}\n${printed}\n`), "replies");
   assert.deepEqual([first.words, second.lines], [["ok", "g0#1", "make"], ['"text":']]);
   assert.equal(textOf('{"error":"bad request","expected":"a command","text":"? bad command\\n"}'), "? bad command\n");
-  assert.deepEqual(shapedAnswers('{"about":[],"next":null}\n', "told"), [{ about: [], next: null }]);
+  assert.deepEqual(shapedAnswers(encoder.encode('{"about":[],"next":null}\n'), "told"), [{ about: [], next: null }]);
 });
