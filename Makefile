@@ -15,7 +15,7 @@ NEEDS_RT = @: $(RT)
 
 .DEFAULT_GOAL := $(if $(HAS_RT),all,help)
 .PHONY: all help quick quick-page demo test lint gate prove edits words command-line-test bench replay second-opinion beside-go carry carry-page carry-beside-go hostile times \
-	gate-times make-times slowest stalls faces dap-test page page-test page-lint vsix arm64 node dist quick-dist dist-check release-check release-test \
+	gate-times make-times page-figures slowest stalls faces dap-test page page-test page-lint vsix arm64 node dist quick-dist dist-check release-check release-test \
 	bare-debian page-pictures install uninstall clean
 
 ## Use it
@@ -210,6 +210,9 @@ gate-times: ## the gate in a fresh clone, with the processor minutes of each cra
 make-times: ## make in a fresh clone, with its slowest functions: bench/MAKE.md (as long)
 	$(NEEDS_RT)
 	tools/measure/make_times.py --table bench/MAKE.md
+
+page-figures: browser-needs $(if $(IS_QUICK),quick-page,page) ## how soon the page is painted, and its memory: bench/PAGE.md (2 minutes)
+	tools/measure/page.py bin/rewind$(if $(IS_QUICK),-quick).html --table bench/PAGE.md
 
 ## Make again what is made
 
