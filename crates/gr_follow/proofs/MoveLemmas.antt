@@ -1,5 +1,5 @@
 -- Steps that a machine takes, and takes back.
-use Rattle.std.proofs.Common.{◌≡◌, ◌∙◌, ◌≤◌, ◌<◌, ◌-◌, ◌+◌, ℕ, List, [], ◌∷◌, ◌++◌, map, take, drop, length, get_or, Result, Ok, Err, refl, sym, ap, subst, arith}
+use Rattle.std.proofs.Common.{◌≡◌, ◌∙◌, ◌≤◌, ◌<◌, ◌-◌, ◌+◌, ℕ, zero, suc, List, [], ◌∷◌, ◌++◌, map, take, drop, length, get_or, Result, Ok, Err, refl, sym, ap, subst, arith}
 use Rattle.std.proofs.lemmas.List.{drop-map, drop-take, get_or-map, get_or_default, length-map, length-take-le, length_push, map-append, take-append-drop, take-map, take-take, take_at, take_more_same}
 use Rattle.gr_base.specs.declared.events.Event.{Event}
 use Rattle.gr_base.specs.declared.names.StepId.{StepId}
@@ -97,3 +97,12 @@ followed own given back new records place k all few same went_back went_on =
     went_on
     ∙ ap (λ es. es ++ map event_of (take (k - place) (drop place records))) (went_back ∙ same ∙ ap (take place) all)
     ∙ both event_of records place k few ∙ ap (take k) (sym all)
+
+-- the first of a list, and one more
+pub one_more : {A B : Type 0} (f : A → B) (xs : List A) (k : ℕ) (x : A) → k < length xs → x ≡ get_or xs k x
+    → take (k + 1) (map f xs) ≡ take k (map f xs) ++ f x ∷ []
+one_more f [] k x within at = absurd (omega (arith, within))
+one_more f (y ∷ xs) zero x within at = ap (λ z. f z ∷ []) (sym at)
+one_more f (y ∷ xs) (suc k) x within at =
+    let n : suc k + 1 ≡ suc (k + 1) = omega arith in
+    ap (λ j. take j (f y ∷ map f xs)) n ∙ ap (λ zs. f y ∷ zs) (one_more f xs k x (omega (arith, within)) at)

@@ -62,3 +62,9 @@ stands_after p w m n k s of e =
       run = led.1;
       stands = subst (λ x. Stands p (record { past = x; again = now.0.again }) n) one now.1;
     }
+
+-- a machine that stands where the first of another's steps led has their events
+pub after_events : (p : Program) (w : Timeline p) (m n : Machine) (k : ℕ) → Stands p w m → StandsAfter p w.past.log k n
+    → events_at n ≡ take k (events_at m)
+after_events p w m n k s there =
+    events_are p _ n there.stands ∙ sym (take-map (λ (r : Logged p). r.event) k w.past.log) ∙ ap (take k) (sym (events_are p w m s))

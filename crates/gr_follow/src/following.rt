@@ -1,6 +1,6 @@
 //! A machine that goes to where the first steps of another led.
 
-ghost use Rattle.std.specs.Prelude.{◌≡◌, ◌≤◌, IsTrue, OnOk, length, map, take};
+ghost use Rattle.std.specs.Prelude.{◌≡◌, ◌≤◌, ◌<◌, ◌+◌, IsTrue, OnOk, length, map, take};
 ghost use Rattle.gr_program.specs.Programs.{Program};
 ghost use Rattle.gr_step.specs.Records.{event_of};
 ghost use Rattle.gr_step.specs.Stores.{program_at};
@@ -8,7 +8,7 @@ ghost use Rattle.gr_rollback.specs.Machines.{Stands, steps_of, store_of};
 ghost use Rattle.gr_rollback.specs.Pasts.{Timeline};
 ghost use Rattle.gr_follow.specs.Following.{IsOf, StandsAfter};
 
-use crate::moving::{back_to, step_through};
+use crate::moving::{back_to, step_as, step_through};
 use gr_base::NoMemory;
 use gr_rollback::Machine;
 use gr_step::Record;
@@ -57,4 +57,24 @@ pub fn follow(
     let place = shared(taken, given, steps.min(taken.len()));
     back_to(alloc, follower, place)?;
     step_through(alloc, follower, &given[place..steps])
+}
+
+/// Takes one step more with a machine that stands where the first `steps` steps of another led, so that it stands where one more
+/// led. It takes no longer where the logs are long.
+///
+/// The one error is out of memory. The machine is then still one of the program.
+pub fn follow_on(
+    alloc: Global,
+    follower: &mut Machine,
+    leader: &Machine,
+    steps: usize,
+) -> Result<(), NoMemory>
+    requires machine { IsOf (program_at (store_of leader.now)) follower.old }
+    requires kept { steps < length (steps_of leader.now) }
+    ensures of { IsOf (program_at (store_of leader.now)) follower.new }
+    ensures there { OnOk result ((p : Program) (w : Timeline p) → Stands p w leader.now
+        → StandsAfter p w.past.log steps follower.old → StandsAfter p w.past.log (steps + 1) follower.new) }
+{
+    let given = leader.log().as_slice();
+    step_as(alloc, follower, &given[steps])
 }

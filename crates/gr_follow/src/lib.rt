@@ -4,4 +4,4 @@
 pub mod following;
 mod moving;
 
-pub use following::follow;
+pub use following::{follow, follow_on};

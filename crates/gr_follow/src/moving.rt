@@ -37,7 +37,7 @@ pub(crate) fn back_to(alloc: Global, machine: &mut Machine, place: usize) -> Res
 }
 
 /// Takes the step of the event of a given step.
-fn step_as(alloc: Global, machine: &mut Machine, step: &Record) -> Result<(), NoMemory>
+pub(crate) fn step_as(alloc: Global, machine: &mut Machine, step: &Record) -> Result<(), NoMemory>
     requires machine { IsMachine machine.old }
     ensures of { IsOf (program_at (store_of machine.old)) machine.new }
     ensures forth { OnOk result (events_at machine.new ≡ events_at machine.old ++ event_of step.now ∷ []) }
