@@ -93,7 +93,7 @@ module _ (p : Program) (w : Timeline p) (m : Machine) (stands : Stands p w m) wh
       )
 
   module _ (id : StepId) (place : ℕ) where
-    named_here : records.IsNamed (steps_of m) place id → IsNamed p w.past.log id place
+    pub named_here : records.IsNamed (steps_of m) place id → IsNamed p w.past.log id place
     named_here named =
         let step = step_at place named.step named.there in
         record { step = step.0; there = step.1; named = sym step.2 ∙ named.named }

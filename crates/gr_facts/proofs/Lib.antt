@@ -5,3 +5,5 @@ mod AskLemmas
 mod NameLemmas
 mod WriterLemmas
 mod SourceLemmas
+mod ValueLemmas
+mod MovedLemmas

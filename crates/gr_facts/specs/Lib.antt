@@ -4,3 +4,6 @@ pub mod Views
 pub mod Asked
 pub mod Sources
 pub mod Recorded
+pub mod Moved
+pub mod MovedAsked
+pub mod Wanted

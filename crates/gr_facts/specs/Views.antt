@@ -2,7 +2,9 @@
 use Rattle.std.specs.Prelude.{map, option_map}
 use Rattle.gr_record.specs.Records.{operation_of}
 use Rattle.gr_facts.specs.declared.telling.Facts as told
+use Rattle.gr_facts.specs.declared.moving.Moved as moves
 use Rattle.gr_facts.specs.Facts.{Facts}
+use Rattle.gr_facts.specs.Moved.{Moved}
 
 abbrev pub facts_in : told.Facts → Facts
 facts_in a = record {
@@ -17,3 +19,6 @@ facts_in a = record {
   made = a.made;
   sources = a.sources.items;
 }
+
+abbrev pub moved_in : moves.Moved → Moved
+moved_in a = record { id = a.id; value = a.value; printed = option_map (λ line. line.items) a.printed }
