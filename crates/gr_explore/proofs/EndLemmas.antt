@@ -24,13 +24,12 @@ use Rattle.gr_search.specs.declared.search.Answer.{Answer}
 use Rattle.gr_search.specs.declared.search.Answer.TheVariants.{Nothing, Found, Limited}
 use Rattle.gr_search.specs.declared.searched.Limit.TheVariants.{Memory, Steps, States, Turns, Back}
 use Rattle.gr_schedules.specs.declared.Aim.{Aim}
-use Rattle.gr_schedules.specs.declared.Aim.TheVariants as aims
 use Rattle.gr_schedules.specs.Matters.{Matter}
 use Rattle.gr_schedules.specs.Schedules.{Origin, schedules, state_after}
 use Rattle.gr_schedules.specs.Aims.{IsAim, NoneComes, NoneComesWithin, SomeComesBy, schedules_to}
 use Rattle.gr_schedules.proofs.ScheduleLemmas.{Led, led_by, state_led}
 use Rattle.gr_schedules.proofs.AimLemmas.{none_comes, none_comes_within, some_comes, led_to, led_long}
-use Rattle.gr_explore.specs.Exploring.{events_at, origin_of, events_since, state_seen, StandsSince, StandsOn, ComesTo, EndsBadly, StandsAgain, IsHome}
+use Rattle.gr_explore.specs.Exploring.{events_at, origin_of, events_since, state_seen, StandsSince, StandsOn, ComesTo, StandsAgain, IsHome}
 use Rattle.gr_explore.specs.Fewest.{ComesByFewest, IsKnownOf, IsHomeAfter}
 use Rattle.gr_explore.specs.Leading.{Seen, seen_as, both_parts, since_leads}
 use Rattle.gr_explore.proofs.ListLemmas.{same_newest}
@@ -227,7 +226,3 @@ module _ (m n : Machine) (base there : ℕ) (all : base ≡ length (steps_of m))
     shortest_home (shortests.Nothing count) h = all_home (Nothing count) h.2
     shortest_home shortests.Found h = λ p w s. tt
     shortest_home (shortests.Limited u) h = all_home (Limited u.limit) h.1
-
--- a bad end is the aim
-pub bad_end : (p : Program) (w : Timeline p) (m : Machine) → ComesTo aims.EndsBadly p w m → EndsBadly p w m
-bad_end p w m c = record { steps = c.steps; state = c.state; leads = c.leads; bad = c.comes; again = c.again; stands = c.stands }

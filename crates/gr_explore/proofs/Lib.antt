@@ -12,3 +12,4 @@ mod PageLemmas
 mod ListingLemmas
 mod BookLemmas
 mod FitLemmas
+mod LeakLemmas

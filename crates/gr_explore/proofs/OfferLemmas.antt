@@ -44,7 +44,7 @@ to_search x [] i = i
 to_search x (y ∷ xs) i = elim i [ inl e ↦ inl e | inr j ↦ inr (to_search x xs j) ]
 
 -- what is seen is there
-was_some : {A B : Type 0} (f : A → B) (o : Option A) (y : B) → option_map f o ≡ Some y → (x : A) × (o ≡ Some x)
+pub was_some : {A B : Type 0} (f : A → B) (o : Option A) (y : B) → option_map f o ≡ Some y → (x : A) × (o ≡ Some x)
 was_some f None y e = absurd (none_some y e)
 was_some f (Some x) y e = (x, refl)
 

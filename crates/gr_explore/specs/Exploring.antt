@@ -13,7 +13,7 @@ use Rattle.gr_rollback.specs.declared.machine.Machine.{Machine}
 use Rattle.gr_rollback.specs.Machines.{store_of, steps_of, Stands, IsMachine}
 use Rattle.gr_rollback.specs.Pasts.{Timeline}
 use Rattle.gr_schedules.specs.declared.Aim.{Aim}
-use Rattle.gr_schedules.specs.Schedules.{Origin, IsBad, newest_first}
+use Rattle.gr_schedules.specs.Schedules.{Origin, newest_first}
 use Rattle.gr_schedules.specs.Aims.{IsAim}
 use Rattle.gr_search.specs.declared.searched.Limit.TheVariants.{Back}
 use Rattle.gr_search.specs.declared.search.Answer.{Answer}
@@ -56,15 +56,6 @@ pub record ComesTo (aim : Aim) (p : Program) (w : Timeline p) (m : Machine) : Ty
   pub state : State
   pub leads : IsLog (machine p) w.past.state steps state
   pub comes : IsAim aim state
-  pub again : List Event
-  pub stands : Stands p (record { past = record { log = w.past.log ++ steps; state = state }; again = again }) m
-
--- they lead to a state that is bad
-pub record EndsBadly (p : Program) (w : Timeline p) (m : Machine) : Type 0 where
-  pub steps : List (Logged p)
-  pub state : State
-  pub leads : IsLog (machine p) w.past.state steps state
-  pub bad : IsBad state
   pub again : List Event
   pub stands : Stands p (record { past = record { log = w.past.log ++ steps; state = state }; again = again }) m
 

@@ -11,7 +11,7 @@ use gr_step::{Change, Form, Record};
 use std::alloc::Global;
 
 /// The goroutine that a step started, if it started one.
-fn begun(change: &Change) -> Option<&GoName>
+pub(crate) fn begun(change: &Change) -> Option<&GoName>
     ensures { option_copied result ≡ begun_by change.now }
 {
     match change.form() {

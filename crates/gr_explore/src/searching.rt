@@ -4,13 +4,12 @@ ghost use Rattle.std.specs.Prelude.{◌≡◌, ◌+◌, length, ℕ};
 ghost use Rattle.gr_program.specs.Programs.{Program};
 ghost use Rattle.gr_search.specs.Going.{HasClosed, Met};
 ghost use Rattle.gr_search.specs.Shortest.{IsCut};
-ghost use Rattle.gr_schedules.specs.Schedules.{NoneEndsBadly, schedules};
 ghost use Rattle.gr_schedules.specs.Aims.{NoneComes, schedules_to};
 ghost use Rattle.gr_schedules.specs.Choices.{AreChoices};
 ghost use Rattle.gr_schedules.specs.Keys.{IsKey};
 ghost use Rattle.gr_rollback.specs.Pasts.{Timeline};
 ghost use Rattle.gr_rollback.specs.Machines.{IsMachine, Stands, steps_of};
-ghost use Rattle.gr_explore.specs.Exploring.{ComesTo, EndsBadly, IsHome, longest_after, origin_of};
+ghost use Rattle.gr_explore.specs.Exploring.{ComesTo, IsHome, longest_after, origin_of};
 ghost use Rattle.gr_explore.specs.Fewest.{ComesByFewest, IsHomeAfter, IsKnownOf};
 ghost use Rattle.gr_search.specs.declared.searched.Limit.{Limit as LimitMet};
 ghost use Rattle.gr_search.specs.declared.shortest.Unfinished.{Unfinished as WhatIsKnown};
@@ -57,27 +56,6 @@ pub fn explore_for(alloc: Global, machine: &mut Machine, aim: Aim, limits: &Limi
         book: &mut book,
     };
     search(alloc, &mut explorer, limits)
-}
-
-/// Explores all schedules of a program from where its machine stands, for one that ends badly: by a fault, or stuck. All else is
-/// as for any aim.
-pub fn explore(alloc: Global, machine: &mut Machine, limits: &Limits) -> Answer
-    requires { IsMachine machine.old }
-    ensures nothing { (p : Program) (w : Timeline p) (states : ℕ) → Stands p w machine.old
-        → result ≡ Answer.Nothing states → NoneEndsBadly p w.past.state }
-    // as for any aim
-    ensures closed { (states : ℕ) → result ≡ Answer.Nothing states
-        → let origin = origin_of machine.old (length (steps_of machine.old)) in
-        HasClosed (schedules origin) (IsKey origin.program) states }
-    ensures found { (p : Program) (w : Timeline p) → Stands p w machine.old
-        → result ≡ Answer.Found → EndsBadly p w machine.new }
-    ensures home { (p : Program) (w : Timeline p) → Stands p w machine.old → IsHome p w result machine.new }
-    ensures limited { (limit : LimitMet) → result ≡ Answer.Limited limit
-        → let origin = origin_of machine.old (length (steps_of machine.old)) in
-        Met (schedules origin) (IsKey origin.program) (AreChoices origin.program) (longest_after origin)
-        limits.now.states limits.now.turns limit }
-{
-    explore_for(alloc, machine, Aim::EndsBadly, limits)
 }
 
 /// Explores the schedules of a program from where its machine stands, for one of the fewest steps that comes to the aim. It explores

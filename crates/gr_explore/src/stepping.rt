@@ -11,6 +11,7 @@ ghost use Rattle.gr_explore.specs.Exploring.{StandsSince, events_since, state_se
 ghost use Rattle.gr_search.specs.declared.searched.Limit.TheVariants as limits;
 ghost use Rattle.gr_explore.specs.Trying.{IsNotTaken, Returned, Tried};
 
+use crate::leaking::leaks;
 use gr_base::{Event, StepId};
 use gr_rollback::{BackRefused, LOG_LIMIT, Machine, Run};
 use gr_schedules::Aim;
@@ -98,7 +99,7 @@ pub(crate) fn taken_since(machine: &Machine, base: usize) -> u64
 }
 
 /// Whether no goroutine is ready.
-fn is_stuck(machine: &Machine) -> bool
+pub(crate) fn is_stuck(machine: &Machine) -> bool
     requires { IsMachine machine.now }
     ensures { IsTrue result ↔ ((g : List ℕ) → ¬ IsReady (state_seen machine.now) g) }
 {
@@ -138,5 +139,6 @@ pub(crate) fn is_at(machine: &Machine, aim: Aim) -> bool
     match aim {
         Aim::EndsBadly => ends_badly(machine),
         Aim::EndsWell => ends_well(machine),
+        Aim::EndsBadlyOrLeaks => ends_badly(machine) || leaks(machine),
     }
 }

@@ -1,27 +1,28 @@
 -- The schedules of a program with an aim. The crates above use these lemmas too.
-use Rattle.std.proofs.Common.{◌≡◌, ◌+◌, ℕ, List, [], ◌∷◌, ◌++◌, length, map, option_map, refl, sym, ◌∙◌, ap, arith}
+use Rattle.std.proofs.Common.{◌≡◌, ◌+◌, ℕ, List, [], ◌∷◌, ◌++◌, length, map, option_map, refl, sym, ◌∙◌, ap, arith, inl, inr, true}
 use Rattle.gr_base.specs.declared.events.Event.{Event}
 use Rattle.gr_base.specs.declared.objects.Object.TheVariants.{Run, Go}
 use Rattle.gr_causal.specs.Machine.{IsLog}
 use Rattle.gr_causal.proofs.PathLemmas.{Path, path_of, log_join}
 use Rattle.gr_program.specs.Programs.{Program}
-use Rattle.gr_rules.specs.States.{State, live, ended}
+use Rattle.gr_rules.specs.States.{State, live, ended, look}
 use Rattle.gr_rules.specs.Steps.{machine}
+use Rattle.gr_rules.specs.Turns.{IsReady}
 use Rattle.gr_laws.specs.Reached.{Logged}
-use Rattle.gr_laws.proofs.CellLemmas.{machine_laws, run_is}
+use Rattle.gr_laws.proofs.CellLemmas.{goroutine_is, machine_laws, run_is}
 use Rattle.gr_record.specs.Running.{IsChecked}
 use Rattle.gr_search.specs.System.{Laws, IsSafe, Leads, Reached, Runs}
 use Rattle.gr_search.specs.Bounds.{HasBad, IsSafeWithin}
 use Rattle.gr_schedules.specs.declared.Aim.{Aim}
-use Rattle.gr_schedules.specs.declared.Aim.TheVariants.{EndsBadly, EndsWell}
+use Rattle.gr_schedules.specs.declared.Aim.TheVariants.{EndsBadly, EndsWell, EndsBadlyOrLeaks}
 use Rattle.gr_schedules.specs.Matters.{Matter, matter}
 use Rattle.gr_schedules.specs.Schedules.{Origin, is_alone, schedules, state_after, newest_first}
 use Rattle.gr_schedules.specs.Aims.{IsAim, NoneComes, NoneComesWithin, SomeComesBy, schedules_to}
 use Rattle.gr_schedules.proofs.ScheduleLemmas.{Led, led_by}
 use Rattle.gr_schedules.proofs.AloneLemmas.{stands_alone}
-use Rattle.gr_schedules.proofs.LikeStates.{goes_like}
+use Rattle.gr_schedules.proofs.LikeStates.{bad_like, goes_like, leaks_like}
 use Rattle.gr_schedules.proofs.LocalSteps.{Locals, local_laws}
-use Rattle.gr_schedules.proofs.SystemLaws.{locals, reached_by, schedule_laws}
+use Rattle.gr_schedules.proofs.SystemLaws.{bad_by_run, locals, reached_by, schedule_laws}
 
 -- what leads by the schedules with an aim leads by the schedules, and the other way round
 module _ (aim : Aim) (o : Origin) where
@@ -46,7 +47,7 @@ module _ (o : Origin) (checked : IsChecked o.program) where
     alone_there = λ s t n a e r h se. l.alone_there s t n a e (same_reached EndsWell o s r) h se;
     apart = λ s t n a e r h se. l.apart s t n a e (same_reached EndsWell o s r) h se;
     ends = λ s t n e f r se i. l.ends s t n e f (same_reached EndsWell o s r) se i;
-    bad_by_run = λ s t r n e reached se i b same. run_is r.run t.run same ∙ b;
+    bad_by_run = λ s t r n a e reached local mine se i b same. run_is r.run t.run same ∙ b;
   }
 
   well_laws : Laws (schedules_to EndsWell o)
@@ -55,9 +56,43 @@ module _ (o : Origin) (checked : IsChecked o.program) where
     same_bad = λ s r i j same b. sym (ap (λ (m : Matter). m.run) same) ∙ b;
   })
 
+  -- where a goroutine is ready, nothing leaks
+  up : (s t : State) (a : Event) → is_alone s a ≡ true → look t (Go a.go) ≡ look s (Go a.go) → IsReady t a.go
+  up s t a h mine =
+      let w = stands_alone s a h in
+      (w.goroutine, goroutine_is a.go (t.goroutines a.go) (s.goroutines a.go) mine ∙ w.there, w.is_up)
+
+  -- nor does it where a local step may be taken alone, before it and after a step that ends all
+  leak_locals : Locals (machine o.program) (state_after o.program o.before) (IsAim EndsBadlyOrLeaks) is_alone matter Run (λ e. Go e.go)
+  leak_locals = let l = locals o checked in record {
+    goes = λ s a r h. l.goes s a (same_reached EndsBadlyOrLeaks o s r) h;
+    fine = λ s a r h b. elim b [
+      | inl q ↦ l.fine s a (same_reached EndsBadlyOrLeaks o s r) h q
+      | inr k ↦ k.none_ready a.go (up s s a h refl)
+    ];
+    by_looks = l.by_looks;
+    alone_there = λ s t n a e r h se. l.alone_there s t n a e (same_reached EndsBadlyOrLeaks o s r) h se;
+    apart = λ s t n a e r h se. l.apart s t n a e (same_reached EndsBadlyOrLeaks o s r) h se;
+    ends = λ s t n e f r se i. l.ends s t n e f (same_reached EndsBadlyOrLeaks o s r) se i;
+    bad_by_run = λ s t r n a e reached h mine se i b same. elim b [
+      | inl q ↦ inl (bad_by_run o checked s t r n e (same_reached EndsBadlyOrLeaks o s reached) se i q same)
+      | inr k ↦ absurd (k.none_ready a.go (up s t a h mine))
+    ];
+  }
+
+  leak_laws : Laws (schedules_to EndsBadlyOrLeaks o)
+  leak_laws = local_laws (machine o.program) (machine_laws o.program) (state_after o.program o.before) (IsAim EndsBadlyOrLeaks) is_alone matter Run (λ e. Go e.go) leak_locals (record {
+    next = λ s r t e i j same h. goes_like o.program s r t e (reached_by o s (same_reached EndsBadlyOrLeaks o s i)) (reached_by o r (same_reached EndsBadlyOrLeaks o r j)) same h;
+    same_bad = λ s r i j same b. elim b [
+      | inl q ↦ inl (bad_like s r same q)
+      | inr k ↦ inr (leaks_like s r same k)
+    ];
+  })
+
 pub aim_laws : (aim : Aim) (o : Origin) → IsChecked o.program → Laws (schedules_to aim o)
 aim_laws EndsBadly o checked = schedule_laws o checked
 aim_laws EndsWell o checked = well_laws o checked
+aim_laws EndsBadlyOrLeaks o checked = leak_laws o checked
 
 module _ (aim : Aim) (o : Origin) where
   abbrev p : Program

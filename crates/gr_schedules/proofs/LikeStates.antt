@@ -1,5 +1,5 @@
 -- States in which the same matters go on alike, and are bad alike.
-use Rattle.std.proofs.Common.{◌≡◌, ℕ, ◌+◌, ◌-◌, ◌%◌, ◌≤◌, List, Option, Some, None, option_map, refl, sym, ◌∙◌, ap, subst, inl, inr, arith}
+use Rattle.std.proofs.Common.{◌≡◌, ℕ, ◌+◌, ◌-◌, ◌%◌, ◌≤◌, List, [], ◌∷◌, Option, Some, None, option_map, refl, sym, ◌∙◌, ap, subst, inl, inr, arith}
 use Rattle.gr_base.specs.declared.names.ChName.{ChName}
 use Rattle.gr_base.specs.declared.values.Value.{Value}
 use Rattle.gr_base.specs.declared.events.Event.{Event}
@@ -13,6 +13,7 @@ use Rattle.gr_laws.specs.Soundness.{SoundChannel, Sound, made_by}
 use Rattle.gr_laws.proofs.RuleSound.{reached_sound}
 use Rattle.gr_schedules.specs.Matters.{Matter, bare, values_from, matter}
 use Rattle.gr_schedules.specs.Schedules.{IsBad, next_state}
+use Rattle.gr_schedules.specs.Aims.{Leaks, is_left, is_waiting}
 use Rattle.gr_schedules.proofs.LikeAttempts.{aged, LikeGo, neither, both, Shifted, LikeItem, no_item, an_item, LikeSlots, KeepsCapacity, Like, goes_alike}
 use Rattle.gr_schedules.proofs.LikeRules.{capacities_in, NextIsFresh, attempt_like}
 
@@ -186,3 +187,23 @@ bad_like s r same bad = elim bad [
     λ g ready. q.1 g (ready_like (s.goroutines g) (r.goroutines g) (like_goroutines (s.goroutines g) (r.goroutines g) (ap (λ (m : Matter). m.goroutines g) same)) ready),
   )
 ]
+
+-- and leaks alike
+bare_waits : (o : Option Goroutine) → is_waiting o ≡ is_waiting (option_map bare o)
+bare_waits None = refl
+bare_waits (Some g) = refl
+
+same_left : (s r : State) → matter s ≡ matter r → (g : List ℕ) → is_left s g ≡ is_left r g
+same_left s r same [] = refl
+same_left s r same (n ∷ ns) =
+    bare_waits (s.goroutines (n ∷ ns)) ∙ ap is_waiting (ap (λ (m : Matter). m.goroutines (n ∷ ns)) same) ∙ sym (bare_waits (r.goroutines (n ∷ ns)))
+
+pub leaks_like : (s r : State) → matter s ≡ matter r → Leaks s → Leaks r
+leaks_like s r same k =
+    let like : (g : List ℕ) → LikeGo (s.goroutines g) (r.goroutines g) = λ g. like_goroutines (s.goroutines g) (r.goroutines g) (ap (λ (m : Matter). m.goroutines g) same) in
+    record {
+      over = sym (ap (λ (m : Matter). m.run) same) ∙ k.over;
+      left = k.left;
+      waits = sym (same_left s r same k.left) ∙ k.waits;
+      none_ready = λ g ready. k.none_ready g (ready_like (s.goroutines g) (r.goroutines g) (like g) ready);
+    }

@@ -35,9 +35,10 @@ module _ (M : Machine) where
     pub alone_there : (s t : State) (n : Note) (a e : Event) → Reached (system_of start bad local key) s → local s a ≡ true → step s e ≡ Some (t, n) → own e ≡ own a → e ≡ a
     -- the others do not touch its own
     pub apart : (s t : State) (n : Note) (a e : Event) → Reached (system_of start bad local key) s → local s a ≡ true → step s e ≡ Some (t, n) → ¬ (own e ≡ own a) → ¬ In (own a) (touches n)
-    -- what writes `run` ends all, and is bad by what it wrote there
+    -- what writes `run` ends all, and is bad by what it wrote there, where it left the own of a local event as it was
     pub ends : (s t : State) (n : Note) (e f : Event) → Reached (system_of start bad local key) s → step s e ≡ Some (t, n) → In run (writes n) → step t f ≡ None
-    pub bad_by_run : (s t r : State) (n : Note) (e : Event) → Reached (system_of start bad local key) s → step s e ≡ Some (t, n) → In run (writes n) → bad t → look r run ≡ look t run → bad r
+    pub bad_by_run : (s t r : State) (n : Note) (a e : Event) → Reached (system_of start bad local key) s → local s a ≡ true → look t (own a) ≡ look s (own a)
+        → step s e ≡ Some (t, n) → In run (writes n) → bad t → look r run ≡ look t run → bad r
 
   -- states in which the same matters go on alike
   pub record Alike {Matter : Type 0} (start : State) (bad : State → Type 0) (local : State → Event → Bool) (key : State → Matter) : Type 0 where
@@ -88,14 +89,14 @@ module _ (M : Machine) (laws : causal.Laws M) where
         let free : (o : Object) → In o (writes n) → In o (touches m) → ⊥ = λ o i j. off (subst (λ x. In x (touches m)) (k.writes_own o i) j) in
         let away : (o : Object) → In o (touches m) → look t o ≡ look s o = λ o i. only_writes s t a n sa o (λ j. free o j i) in
         let v = local s u e m se t away in
+        let mine : look u (own a) ≡ look s (own a) = only_writes s u e m se (own a) (λ j. off (within s u e m se (own a) j)) in
         elim (in_or_not M laws run (writes m)) [
           | inl i ↦ inr (record {
             none = λ f. none_is u f (ends s u m e f r se i);
-            also = λ b. (v.0, next_is t v.0 e m v.1, bad_by_run s u v.0 m e r se i b (v.2 run i));
+            also = λ b. (v.0, next_is t v.0 e m v.1, bad_by_run s u v.0 m a e r h mine se i b (v.2 run i));
           })
           | inr i ↦
               let here : look u run ≡ look s run = only_writes s u e m se run i in
-              let mine : look u (own a) ≡ look s (own a) = only_writes s u e m se (own a) (λ j. off (within s u e m se (own a) j)) in
               let w = local s t a n sa u (λ o j. elim (k.touches_own o j) [
                 | inl q ↦ subst (λ x. look u x ≡ look s x) (sym q) here
                 | inr q ↦ subst (λ x. look u x ≡ look s x) (sym q) mine

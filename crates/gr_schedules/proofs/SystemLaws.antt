@@ -56,7 +56,7 @@ reached_by o s r =
     record { log = _; leads = log_join (machine o.program) (start o.program) (state_after o.program o.before) s first.log l.steps first.leads l.leads }
 
 module _ (o : Origin) (checked : IsChecked o.program) where
-  bad_by_run : (s t r : State) (n : (machine o.program).Note) (e : Event) → system.Reached (schedules o) s → (machine o.program).step s e ≡ Some (t, n) → In Run n.writes → IsBad t
+  pub bad_by_run : (s t r : State) (n : (machine o.program).Note) (e : Event) → system.Reached (schedules o) s → (machine o.program).step s e ≡ Some (t, n) → In Run n.writes → IsBad t
       → (machine o.program).look r Run ≡ (machine o.program).look t Run → IsBad r
   bad_by_run s t r n e reached h i b same = elim b [
     | inl f ↦ inl (f.0, run_is r.run t.run same ∙ f.1)
@@ -71,7 +71,7 @@ module _ (o : Origin) (checked : IsChecked o.program) where
     alone_there = λ s t n a e r h se. alone_is_plain o.program s t n a e h se;
     apart = λ s t n a e r h se. alone_untouched o.program checked s t n a e (reached_by o s r) h se;
     ends = λ s t n e f r se i. over o.program t f (run_written o.program s t n e (reached_by o s r) se i);
-    bad_by_run = bad_by_run;
+    bad_by_run = λ s t r n a e reached local mine h i b same. bad_by_run s t r n e reached h i b same;
   }
 
   pub schedule_laws : Laws (schedules o)

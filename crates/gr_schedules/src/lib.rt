@@ -32,6 +32,8 @@ pub enum Aim {
     EndsBadly,
     /// A run ends well there: the program has ended, without a fault.
     EndsWell,
+    /// A run ends badly there, or the program has ended and leaves goroutines of which some wait and none is ready.
+    EndsBadlyOrLeaks,
 }
 
 /// The schedules of a checked program meet the laws of systems that are searched: a local step may be taken alone, since no other
