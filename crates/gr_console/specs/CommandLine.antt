@@ -1,10 +1,11 @@
 -- The command line of the program, as `clap` reads command lines.
-use Rattle.std.specs.Prelude.{ℕ, ◌≤◌, List, Option, None, Some, true, false, codes, option_map, option_and_then, if◌then◌else◌}
+use Rattle.std.specs.Prelude.{ℕ, ◌≤◌, Bool, List, Option, None, Some, true, false, codes, nat_eq, option_map, option_and_then, if◌then◌else◌}
+use Rattle.std.specs.Cmp.Lexicographic.{pointwise}
 use Rattle.std.specs.Str.Parse.{digits_value, without_leading_plus}
 use Rattle.clap.specs.ValueTests.{accepts}
 use Rattle.clap.specs.Words.{App, Rule, Text, first_of, matches_of, new_app, new_rule, with_rule}
 use Rattle.clap.specs.Simple.{on_top}
-use Rattle.clap.specs.declared.builder.action.ArgAction.TheVariants.{Set}
+use Rattle.clap.specs.declared.builder.action.ArgAction.TheVariants.{Set, SetTrue}
 use Rattle.clap.specs.declared.builder.value_parser.ValueParser.TheVariants as parses
 use Rattle.gr_console.specs.declared.settings.TheConstants.{WORKER_LIMIT, STATE_LIMIT, USUAL_STATES}
 use Rattle.gr_console.specs.declared.settings.Settings.{Settings}
@@ -19,6 +20,10 @@ file_rule = record (new_rule (codes "FILE")) { action = Some Set }
 -- an option with a value
 abbrev pub option_rule : Text → Rule
 option_rule name = record (new_rule name) { action = Some Set; long = Some name; value_names = 1 }
+
+-- an option without a value
+abbrev pub flag_rule : Text → Rule
+flag_rule name = record (new_rule name) { action = Some SetTrue; long = Some name }
 
 -- an option with a number from the least to the greatest
 abbrev pub number_rule : Text → ℕ → ℕ → Rule
@@ -44,11 +49,13 @@ session_line = with_rule (with_rule (with_rule bare_line file_rule) (option_rule
 abbrev pub file_line : App
 file_line = with_rule (with_rule session_line (option_rule (codes "search"))) (option_rule (codes "blame"))
 
+-- with the options of a search, too
+abbrev pub search_line : App
+search_line = with_rule (with_rule (with_rule file_line (option_rule (codes "after"))) states_rule) (flag_rule (codes "leaks"))
+
 -- `rewind`, with all its options
 abbrev pub rewind_line : App
-rewind_line =
-    with_rule (with_rule (with_rule (with_rule file_line (option_rule (codes "explain"))) workers_rule) (option_rule (codes "after")))
-    states_rule
+rewind_line = with_rule (with_rule search_line (option_rule (codes "explain"))) workers_rule
 
 -- what a command line may ask of the program
 pub data Asked : Type 0 where
@@ -56,7 +63,7 @@ pub data Asked : Type 0 where
   Checks : (file : Text) → Asked
   Tells : (file : Text) → Asked
   Explains : (code : Text) → Asked
-  Searches : (file : Text) (after : Option Text) (states : ℕ) → Asked
+  Searches : (file : Text) (after : Option Text) (leaks : Bool) (states : ℕ) → Asked
   Blames : (file after : Text) (states : ℕ) → Asked
 
 abbrev pub asked_of : Settings → Asked
@@ -64,7 +71,7 @@ asked_of (settings.Debug file workers) = Debugs file.now workers
 asked_of (settings.Check file) = Checks file.now
 asked_of (settings.Tell file) = Tells file.now
 asked_of (settings.Explain code) = Explains code.now
-asked_of (settings.Search file after states) = Searches file.now (option_map (λ text. text.now) after) states
+asked_of (settings.Search file after leaks states) = Searches file.now (option_map (λ text. text.now) after) leaks states
 asked_of (settings.Blame file after states) = Blames file.now after.now states
 
 -- a session has at most 64 workers
@@ -73,7 +80,7 @@ HasFewWorkers (settings.Debug file workers) = workers ≤ WORKER_LIMIT
 HasFewWorkers (settings.Check file) = Unit {0}
 HasFewWorkers (settings.Tell file) = Unit {0}
 HasFewWorkers (settings.Explain code) = Unit {0}
-HasFewWorkers (settings.Search file after states) = Unit {0}
+HasFewWorkers (settings.Search file after leaks states) = Unit {0}
 HasFewWorkers (settings.Blame file after states) = Unit {0}
 
 -- the number that a text gives, from the least to the greatest that is asked for
@@ -91,8 +98,13 @@ abbrev pub states_in : Option Text → Option ℕ
 states_in None = Some USUAL_STATES
 states_in (Some text) = number_in 1 STATE_LIMIT text
 
-abbrev pub searches : Text → Option Text → Option Text → Option Asked
-searches file after states = option_map (λ n. Searches file after n) (states_in states)
+abbrev pub searches : Text → Option Text → Bool → Option Text → Option Asked
+searches file after leaks states = option_map (λ n. Searches file after leaks n) (states_in states)
+
+-- whether an option without a value is given: `clap` gives it the value `true` then
+abbrev pub is_given : Option Text → Bool
+is_given None = false
+is_given (Some text) = pointwise nat_eq text (codes "true")
 
 abbrev pub blames : Text → Text → Option Text → Option Asked
 blames file after states = option_map (λ n. Blames file after n) (states_in states)
@@ -125,21 +137,21 @@ the_way None None None None (Some file) None = Some (OfSearch file)
 the_way None None None None None (Some file) = Some (OfBlame file)
 the_way file check json explain search blame = None
 
--- What is asked in such a way with the values of `--workers`, `--after` and `--states`. A session takes the first of them, a
--- search the other two, and a blame these two, of which it needs the script. No other is taken.
-abbrev pub asked_with : AskedWay → Option Text → Option Text → Option Text → Option Asked
-asked_with (OfSession file) workers None None = debugs file workers
-asked_with (OfCheck file) None None None = Some (Checks file)
-asked_with (OfTelling file) None None None = Some (Tells file)
-asked_with (OfCode code) None None None = Some (Explains code)
-asked_with (OfSearch file) None after states = searches file after states
-asked_with (OfBlame file) None (Some after) states = blames file after states
-asked_with way workers after states = None
+-- What is asked in such a way with the values of `--workers`, `--after` and `--states`, and with `--leaks` or without it. A session
+-- takes the first of them, a search the others, and a blame `--states` and the script, which it needs. No other is taken.
+abbrev pub asked_with : AskedWay → Option Text → Option Text → Option Text → Bool → Option Asked
+asked_with (OfSession file) workers None None false = debugs file workers
+asked_with (OfCheck file) None None None false = Some (Checks file)
+asked_with (OfTelling file) None None None false = Some (Tells file)
+asked_with (OfCode code) None None None false = Some (Explains code)
+asked_with (OfSearch file) None after states leaks = searches file after leaks states
+asked_with (OfBlame file) None (Some after) states false = blames file after states
+asked_with way workers after states leaks = None
 
 -- what is asked by the first values of the options
 abbrev pub asked_by : (Text → Option Text) → Option Asked
 asked_by value =
-    option_and_then (λ way. asked_with way (value (codes "workers")) (value (codes "after")) (value (codes "states")))
+    option_and_then (λ way. asked_with way (value (codes "workers")) (value (codes "after")) (value (codes "states")) (is_given (value (codes "leaks"))))
     (the_way (value (codes "FILE")) (value (codes "check")) (value (codes "json")) (value (codes "explain")) (value (codes "search")) (value (codes "blame")))
 
 -- what the words of a command line ask for; the first of them is the program's own name

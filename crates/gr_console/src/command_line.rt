@@ -2,15 +2,16 @@
 ghost use Rattle.std.specs.Prelude.{◌≡◌, ◌≤◌, [], IfOk, IfErr, IfSome, OnOk, Some, true, false, is_some, option_map, map, codes};
 ghost use Rattle.clap.specs.Words.{app_of, fault_of, found_of, first_value, kind_of, rows_of, rule_of, takes, matches_of};
 ghost use Rattle.clap.specs.Words.{with_rule};
-ghost use Rattle.gr_console.specs.CommandLine.{bare_line, session_line, file_line, rewind_line, file_rule, option_rule, workers_rule, states_rule};
+ghost use Rattle.gr_console.specs.CommandLine.{bare_line, session_line, file_line, search_line, rewind_line, file_rule, flag_rule, option_rule, workers_rule, states_rule};
 ghost use Rattle.gr_console.specs.CommandLine.{debugs as session_over, searches as search_of, blames as blame_of};
-ghost use Rattle.gr_console.specs.CommandLine.{number_in, states_in, way_of, the_way, asked_with, asked_of, asked_by, asked_in};
+ghost use Rattle.gr_console.specs.CommandLine.{is_given as is_given_by, number_in, states_in, way_of, the_way, asked_with, asked_of, asked_by, asked_in};
 ghost use Rattle.gr_console.specs.CommandLine.{HasFewWorkers};
 
 use crate::settings::{STATE_LIMIT, Settings, USUAL_STATES, WORKER_LIMIT};
 use crate::words::{
     ABOUT, AFTER_HELP, BLAME_HELP, CHECK_HELP, EXPLAIN_HELP, FILE_HELP, HELP, JSON_HELP,
-    NOTHING_ASKED, SEARCH_HELP, STATES_HELP, TOO_MUCH_ASKED, USAGE, VERSION, WORKERS_HELP,
+    LEAKS_HELP, NOTHING_ASKED, SEARCH_HELP, STATES_HELP, TOO_MUCH_ASKED, USAGE, VERSION,
+    WORKERS_HELP,
 };
 use clap::error::ErrorKind;
 use clap::{Arg, ArgAction, ArgMatches, Command, Error, value_parser};
@@ -126,6 +127,16 @@ fn states_argument<'a>(alloc: Global) -> Arg<'a>
         .help(STATES_HELP)
 }
 
+fn leaks_argument<'a>(alloc: Global) -> Arg<'a>
+    ensures rule { rule_of result ≡ flag_rule (codes "leaks") }
+    ensures own { result.global ≡ false }
+{
+    Arg::new(alloc, "leaks")
+        .long("leaks")
+        .action(ArgAction::SetTrue)
+        .help(LEAKS_HELP)
+}
+
 /// The command before its arguments.
 fn bare_command<'a>(alloc: Global) -> Command<'a>
     ensures { app_of result ≡ bare_line }
@@ -163,14 +174,22 @@ fn file_command<'a>(alloc: Global) -> Result<Command<'a>, AllocError>
     with_argument(with_search, blame_argument(alloc))
 }
 
+/// The command with the arguments of a search, too.
+fn search_command<'a>(alloc: Global) -> Result<Command<'a>, AllocError>
+    ensures { IfOk result (λ command. app_of command ≡ search_line) }
+{
+    let of_files = file_command(alloc)?;
+    let with_after = with_argument(of_files, after_argument(alloc))?;
+    let with_states = with_argument(with_after, states_argument(alloc))?;
+    with_argument(with_states, leaks_argument(alloc))
+}
+
 fn rewind_command<'a>(alloc: Global) -> Result<Command<'a>, AllocError>
     ensures { IfOk result (λ command. app_of command ≡ rewind_line) }
 {
-    let of_files = file_command(alloc)?;
-    let with_explain = with_argument(of_files, explain_argument(alloc))?;
-    let with_workers = with_argument(with_explain, workers_argument(alloc))?;
-    let with_after = with_argument(with_workers, after_argument(alloc))?;
-    with_argument(with_after, states_argument(alloc))
+    let of_search = search_command(alloc)?;
+    let with_explain = with_argument(of_search, explain_argument(alloc))?;
+    with_argument(with_explain, workers_argument(alloc))
 }
 
 /// The number that a text gives, from the least to the greatest that is asked for.
@@ -210,9 +229,24 @@ fn states(text: Option<&str>) -> Option<u32>
     }
 }
 
+/// Whether an option without a value is given, by the value that it has.
+fn is_given(text: Option<&str>) -> bool
+    ensures { result ≡ is_given_by (option_map (λ text. text.now) text.entry) }
+{
+    match text {
+        None => false,
+        Some(text) => text == "true",
+    }
+}
+
 /// A search of a file, from where a script leaves it, if one is given.
-fn searches<'a>(file: &'a str, after: Option<&'a str>, asked: Option<&str>) -> Option<Settings<'a>>
-    ensures asked { option_map asked_of result ≡ search_of file.entry.now (option_map (λ text. text.now) after.entry)
+fn searches<'a>(
+    file: &'a str,
+    after: Option<&'a str>,
+    leaks: bool,
+    asked: Option<&str>,
+) -> Option<Settings<'a>>
+    ensures asked { option_map asked_of result ≡ search_of file.entry.now (option_map (λ text. text.now) after.entry) leaks
         (option_map (λ text. text.now) asked.entry) }
     ensures few { IfSome result HasFewWorkers }
 {
@@ -220,6 +254,7 @@ fn searches<'a>(file: &'a str, after: Option<&'a str>, asked: Option<&str>) -> O
     Some(Settings::Search {
         file,
         after,
+        leaks,
         states,
     })
 }
@@ -244,18 +279,19 @@ fn with_options<'a>(
     workers: Option<&str>,
     after: Option<&'a str>,
     states: Option<&str>,
+    leaks: bool,
 ) -> Option<Settings<'a>>
     ensures asked { option_map asked_of result ≡ asked_with (way_of way.entry) (option_map (λ text. text.now) workers.entry)
-        (option_map (λ text. text.now) after.entry) (option_map (λ text. text.now) states.entry) }
+        (option_map (λ text. text.now) after.entry) (option_map (λ text. text.now) states.entry) leaks }
     ensures few { IfSome result HasFewWorkers }
 {
-    match (way, workers, after, states) {
-        (Way::Session(file), workers, None, None) => debugs(file, workers),
-        (Way::Check(file), None, None, None) => Some(Settings::Check { file }),
-        (Way::Tell(file), None, None, None) => Some(Settings::Tell { file }),
-        (Way::Explain(code), None, None, None) => Some(Settings::Explain { code }),
-        (Way::Search(file), None, after, states) => searches(file, after, states),
-        (Way::Blame(file), None, Some(after), states) => blames(file, after, states),
+    match (way, workers, after, states, leaks) {
+        (Way::Session(file), workers, None, None, false) => debugs(file, workers),
+        (Way::Check(file), None, None, None, false) => Some(Settings::Check { file }),
+        (Way::Tell(file), None, None, None, false) => Some(Settings::Tell { file }),
+        (Way::Explain(code), None, None, None, false) => Some(Settings::Explain { code }),
+        (Way::Search(file), None, after, states, leaks) => searches(file, after, leaks, states),
+        (Way::Blame(file), None, Some(after), states, false) => blames(file, after, states),
         _ => None,
     }
 }
@@ -303,6 +339,7 @@ fn asked<'a>(matches: &ArgMatches<'a>) -> Option<Settings<'a>>
         matches.get_str("workers"),
         matches.get_str("after"),
         matches.get_str("states"),
+        is_given(matches.get_str("leaks")),
     )
 }
 

@@ -29,11 +29,12 @@ pub enum Settings<'a> {
     Explain {
         code: &'a str,
     },
-    /// Whether some schedule of the program in this file ends badly, from where the commands of a script leave it. At most so many
-    /// states are kept.
+    /// Whether some schedule of the program in this file ends badly, from where the commands of a script leave it. `leaks` says
+    /// whether one that leaks goroutines does. At most so many states are kept.
     Search {
         file: &'a str,
         after: Option<&'a str>,
+        leaks: bool,
         states: u32,
     },
     /// Which step of the run of a script is to blame that no schedule ends well any more. At most so many states are kept.

@@ -11,7 +11,7 @@ pub(crate) const USAGE: &str = "\
 rewind [--workers <N>] <FILE>
        rewind --check <FILE>
        rewind --json <FILE>
-       rewind --search <FILE> [--after <SCRIPT>] [--states <N>]
+       rewind --search <FILE> [--leaks] [--after <SCRIPT>] [--states <N>]
        rewind --blame <FILE> --after <SCRIPT> [--states <N>]
        rewind --explain <CODE>";
 
@@ -75,7 +75,7 @@ pub(crate) const NOTHING_ASKED: &str = "\
 one of FILE, '--check <FILE>', '--json <FILE>', '--explain <CODE>', '--search <FILE>' and '--blame <FILE>' is required";
 
 pub(crate) const TOO_MUCH_ASKED: &str = "\
-FILE, '--check <FILE>', '--json <FILE>', '--explain <CODE>', '--search <FILE>' and '--blame <FILE>' exclude each other. '--workers <N>' goes with FILE alone. '--after <SCRIPT>' and '--states <N>' go with '--search' and '--blame', and '--blame' needs '--after'";
+FILE, '--check <FILE>', '--json <FILE>', '--explain <CODE>', '--search <FILE>' and '--blame <FILE>' exclude each other. '--workers <N>' goes with FILE alone. '--after <SCRIPT>' and '--states <N>' go with '--search' and '--blame', '--leaks' goes with '--search' alone, and '--blame' needs '--after'";
 
 pub(crate) const FILE_HELP: &str = "The source to debug, by the commands on standard input";
 
@@ -93,6 +93,9 @@ Searches all schedules for one that ends badly, and writes its commands";
 
 pub(crate) const BLAME_HELP: &str = "\
 Finds the first step of SCRIPT's run after which no schedule ends well any more";
+
+pub(crate) const LEAKS_HELP: &str = "\
+With '--search', counts as a bad end that 'main' has returned and the goroutines that are left wait for ever";
 
 pub(crate) const AFTER_HELP: &str = "\
 The commands that are carried out before the search; '-' is standard input";
@@ -120,7 +123,7 @@ error: invalid UTF-8 was detected in one or more arguments
 Usage: rewind [--workers <N>] <FILE>
        rewind --check <FILE>
        rewind --json <FILE>
-       rewind --search <FILE> [--after <SCRIPT>] [--states <N>]
+       rewind --search <FILE> [--leaks] [--after <SCRIPT>] [--states <N>]
        rewind --blame <FILE> --after <SCRIPT> [--states <N>]
        rewind --explain <CODE>
 

@@ -10,6 +10,7 @@ use Rattle.gr_session.specs.Journal.{World, first_world, past_of, course_of}
 use Rattle.gr_session.specs.Refused.{SaysWhy}
 use Rattle.gr_session.specs.Source.{IsProgramOf}
 use Rattle.gr_serve.specs.Lines.{lines_of}
+use Rattle.gr_survey.specs.declared.bad_end.BadEnds.{BadEnds}
 use Rattle.gr_survey.specs.declared.opening.SurveyFault.{SurveyFault}
 use Rattle.gr_survey.specs.declared.opening.SurveyFault.TheVariants.{Open, Line, Memory}
 use Rattle.gr_survey.specs.declared.surveying.Surveyed.{Surveyed}
@@ -43,6 +44,6 @@ SaysWhyNot source script (Line number) = HasRefused source script number
 SaysWhyNot source script Memory = Unit {0}
 
 -- what was found of the schedules from where the script leaves the program, and what became of the text
-pub record IsSurvey (source script : List ℕ) (limits : Limits) (found : Surveyed) (old new : List ℕ) : Type 0 where
+pub record IsSurvey (source script : List ℕ) (bad : BadEnds) (limits : Limits) (found : Surveyed) (old new : List ℕ) : Type 0 where
   pub after : After source script
-  pub is : IsFound after.program (past_of after.program after.world) limits found old new
+  pub is : IsFound after.program (past_of after.program after.world) bad limits found old new

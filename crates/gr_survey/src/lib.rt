@@ -9,7 +9,7 @@ pub mod script;
 pub mod surveying;
 mod writing;
 
-pub use bad_end::BadEnd;
+pub use bad_end::{BadEnd, BadEnds};
 pub use blaming::{Blamed, blame};
 pub use gr_explore::{Limit, Limits, Span, Unfinished};
 pub use opening::SurveyFault;

@@ -5,6 +5,7 @@ use Rattle.gr_search.specs.declared.search.Limits.{Limits}
 use Rattle.gr_lines.specs.Devices.{Change, Fails, NeverFails}
 use Rattle.gr_serve.specs.Debug.{SourceRead}
 use Rattle.gr_survey.specs.Blames.{IsBlaming}
+use Rattle.gr_survey.specs.declared.bad_end.BadEnds.{BadEnds}
 use Rattle.gr_survey.specs.declared.blaming.Blamed.{Blamed}
 use Rattle.gr_survey.specs.declared.opening.SurveyFault.{SurveyFault}
 use Rattle.gr_survey.specs.declared.opening.SurveyFault.TheVariants.{Open, Line, Memory}
@@ -22,11 +23,11 @@ pub record ReadBoth (source script : Change) (text commands : List ℕ) : Type 0
   pub script_fine : NeverFails script
 
 -- this was found of the program of the source, from where the script leaves it
-pub record Searched (source script : Change) (limits : Limits) (found : Surveyed) (old new : List ℕ) : Type 0 where
+pub record Searched (source script : Change) (bad : BadEnds) (limits : Limits) (found : Surveyed) (old new : List ℕ) : Type 0 where
   pub text : List ℕ
   pub commands : List ℕ
   pub read : ReadBoth source script text commands
-  pub survey : IsSurvey text commands limits found old new
+  pub survey : IsSurvey text commands bad limits found old new
 
 -- this was found of the run of the script on the program of the source
 pub record BlamedBy (source script : Change) (blamed : Blamed) : Type 0 where

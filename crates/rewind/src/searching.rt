@@ -9,7 +9,7 @@ use gr_lines::counted::{Counted, LineError};
 use gr_serve::debug::read_source;
 use gr_survey::{blame, survey};
 pub use gr_survey::{
-    BadEnd, Blamed, Limit, Limits, Schedule, Span, SurveyFault, Surveyed, Unfinished,
+    BadEnd, BadEnds, Blamed, Limit, Limits, Schedule, Span, SurveyFault, Surveyed, Unfinished,
 };
 use std::alloc::Global;
 use std::io::Read;
@@ -85,11 +85,12 @@ pub fn search<S: Read, R: Read>(
     alloc: Global,
     source: &mut Counted<S>,
     script: &mut Counted<R>,
+    bad: BadEnds,
     limits: &Limits,
     text: &mut Vec<u8>,
 ) -> Result<Surveyed, SearchFault>
     ensures found { IfOk result (λ found. Searched (change S.remaining source.old source.new)
-        (change R.remaining script.old script.new) limits.now found text.old.items text.new.items) }
+        (change R.remaining script.old script.new) bad limits.now found text.old.items text.new.items) }
     ensures why { IfErr result (λ fault. SearchLeft fault (change S.remaining source.old source.new)
         (change R.remaining script.old script.new)) }
     ensures err { OnErr result (text.new.items ≡ text.old.items) }
@@ -100,7 +101,14 @@ pub fn search<S: Read, R: Read>(
         Ok(()) => {}
         Err(fault) => return Err(fault),
     }
-    let surveyed = survey(alloc, program.as_slice(), commands.as_slice(), limits, text);
+    let surveyed = survey(
+        alloc,
+        program.as_slice(),
+        commands.as_slice(),
+        bad,
+        limits,
+        text,
+    );
     match surveyed {
         Ok(found) => Ok(found),
         Err(fault) => Err(SearchFault::Survey(fault)),

@@ -168,9 +168,10 @@ fn run<T: Threads + Wait + Sync>(rt: &HostRuntime, threads: &T) -> io::Result<Ex
             Settings::Search {
                 file,
                 after,
+                leaks,
                 states,
             },
-        ) => search_file(rt, file, after, states),
+        ) => search_file(rt, file, after, leaks, states),
         Ok(
             Settings::Blame {
                 file,

@@ -5,8 +5,8 @@ use rewind::counted::Counted;
 use rewind::debug::DebugFault;
 use rewind::print_step;
 use rewind::searching::{
-    BadEnd, Blamed, Limit, Limits, Schedule, SearchFault, Span, SurveyFault, Surveyed, Unfinished,
-    find_blame, search,
+    BadEnd, BadEnds, Blamed, Limit, Limits, Schedule, SearchFault, Span, SurveyFault, Surveyed,
+    Unfinished, find_blame, search,
 };
 use rewind::stream::ServeFault;
 use std::fs::File;
@@ -23,6 +23,8 @@ struct Wanted<'a> {
     file: &'a str,
     /// The name of the script; empty without one.
     script: &'a str,
+    /// Which ends are bad.
+    bad: BadEnds,
     states: u32,
 }
 
@@ -89,6 +91,7 @@ fn end_words(end: BadEnd) -> &'static str {
     match end {
         BadEnd::Stuck => "a deadlock",
         BadEnd::Fault(_) => "a panic",
+        BadEnd::Leak => "a leak",
     }
 }
 
@@ -149,7 +152,14 @@ fn search_after<R: Read + Drop>(
     let mut script = Counted::new(script);
     let mut commands = Vec::new(rt.alloc());
     let limits = wanted.limits();
-    match search(rt.alloc(), &mut source, &mut script, &limits, &mut commands) {
+    match search(
+        rt.alloc(),
+        &mut source,
+        &mut script,
+        wanted.bad,
+        &limits,
+        &mut commands,
+    ) {
         Ok(found) => Ok(tell(rt, wanted, found, commands.as_slice())),
         Err(fault) => Ok(fail_search(rt, wanted, fault)),
     }
@@ -160,12 +170,18 @@ pub(crate) fn search_file(
     rt: &HostRuntime,
     file: &str,
     after: Option<&str>,
+    leaks: bool,
     states: u32,
 ) -> io::Result<ExitCode> {
     let script = after.unwrap_or("");
     let wanted = Wanted {
         file,
         script,
+        bad: if leaks {
+            BadEnds::WithLeaks
+        } else {
+            BadEnds::WithoutLeaks
+        },
         states,
     };
     match after {
@@ -253,6 +269,7 @@ pub(crate) fn blame_file(
     let wanted = Wanted {
         file,
         script,
+        bad: BadEnds::WithoutLeaks,
         states,
     };
     if script == "-" {
