@@ -10,7 +10,7 @@ from typing import NamedTuple
 
 import pytest
 
-from support.places import EXAMPLES
+from support.places import EXAMPLES, SESSIONS
 from support.program import Program
 
 NONE, REFUSED, BAD, LIMIT = 0, 2, 4, 5
@@ -190,6 +190,18 @@ def test_a_single_state_is_told_as_one(program: Program, tmp_path: Path) -> None
     assert found == (NONE, [], "no schedule ends badly: its one state seen\n")
 
 
+def test_a_leak_is_a_bad_end_where_that_is_asked(program: Program) -> None:
+    path = SESSIONS / "leaked_goroutine.go"
+    found = search(program, path, "--leaks")
+    assert (found.status, found.told) == (BAD, "a schedule of 23 steps ends in a leak\n")
+    check_end(program, path, found.commands, "ended")
+    assert search(program, path).status == NONE
+
+
+def test_no_goroutine_is_left_in_a_program_that_waits_for_all(program: Program) -> None:
+    assert search(program, EXAMPLES / "lost_update.go", "--leaks") == search(program, EXAMPLES / "lost_update.go")
+
+
 def test_the_example_that_counts_for_ever_meets_a_limit(program: Program) -> None:
     found = search(program, EXAMPLES / "starved_select.go", "--states", "200")
     assert (found.status, found.commands) == (LIMIT, [])
@@ -271,6 +283,10 @@ def test_files_that_cannot_be_read_or_are_refused_are_named(program: Program, tm
         ["--explain", "N1", "--states", "5"],
         ["a.go", "--after", "-"],
         ["a.go", "--states", "5"],
+        ["a.go", "--leaks"],
+        ["--check", "a.go", "--leaks"],
+        ["--blame", "a.go", "--after", "-", "--leaks"],
+        ["--leaks"],
         ["--after", "-"],
     ],
 )

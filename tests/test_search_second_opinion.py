@@ -13,7 +13,7 @@ from typing import Optional
 import pytest
 
 from model.parser import functions
-from model.schedules import BAD, Choice, ENDED, FAULT, STUCK, Node, Schedules, TooMany, clauses_of, end_of
+from model.schedules import BAD, Choice, ENDED, FAULT, LEAK, STUCK, Node, Schedules, TooMany, clauses_of, end_of, leaks
 from model.world import Refused, World
 from support.program import Program
 from support.small_programs import small_program
@@ -23,7 +23,7 @@ MOST = 700
 # How many programs, in how many cases.
 USUAL, FULL, CASES = 40, 3_000, 20
 NONE_BAD, SOME_BAD = 0, 4
-WORDS = {STUCK: "a deadlock", FAULT: "a panic"}
+WORDS = {STUCK: "a deadlock", FAULT: "a panic", LEAK: "a leak"}
 
 
 def schedules_of(source: str) -> Optional[Schedules]:
@@ -34,25 +34,26 @@ def schedules_of(source: str) -> Optional[Schedules]:
         return None
 
 
-def searched(program: Program, option: str, source: str, commands: list[str]) -> tuple[int, list[str], str]:
+def searched(program: Program, options: list[str], source: str, commands: list[str]) -> tuple[int, list[str], str]:
     """The status of a search behind some commands, the lines of standard output, and the sentence."""
     Path(program.source).write_text(source)
     script = "".join(f"{it}\n" for it in commands).encode()
-    done = program.run_words([option, program.source, "--after", "-"], script)
+    done = program.run_words([*options, program.source, "--after", "-"], script)
     return done.status, done.output.decode().splitlines(), done.error.decode().strip()
 
 
-def check_search(program: Program, source: str, bad: Optional[Node]) -> None:
+def check_search(program: Program, source: str, options: list[str], bad: Optional[Node]) -> None:
     """The search tells a bad end of the fewest steps, or that there is none."""
-    status, commands, sentence = searched(program, "--search", source, [])
+    status, commands, sentence = searched(program, options, source, [])
     if bad is None:
         assert status == NONE_BAD and not commands, sentence
         assert re.fullmatch(r"no schedule ends badly: (all \d+ states|its one state) seen", sentence)
         return
     assert status == SOME_BAD, sentence
     assert len(commands) == len(bad.way), (commands, bad.way)
-    found = end_of(behind(source, commands))
-    assert found in BAD
+    world = behind(source, commands)
+    found = LEAK if leaks(world) else end_of(world)
+    assert found in (*BAD, LEAK)
     assert sentence == f"a schedule of {len(commands)} steps ends in {WORDS[found]}"
 
 
@@ -82,7 +83,7 @@ def drawn(chance: random.Random, source: str) -> tuple[Choice, ...]:
 def check_blame(program: Program, source: str, found: Schedules, chance: random.Random) -> None:
     """The step to blame for the end of a random run is the model's."""
     way = drawn(chance, source)
-    status, names, sentence = searched(program, "--blame", source, [it.command() for it in way])
+    status, names, sentence = searched(program, ["--blame"], source, [it.command() for it in way])
     blamed = found.to_blame(way)
     assert (status, names) == (NONE_BAD, [blamed] if blamed else []), (sentence, way)
 
@@ -99,7 +100,8 @@ def test_small_programs(case: int, program: Program, request: pytest.FixtureRequ
             continue
         bad = found.shortest_bad()
         try:
-            check_search(program, source, bad)
+            check_search(program, source, ["--search"], bad)
+            check_search(program, source, ["--leaks", "--search"], found.shortest_bad(with_leaks=True))
             check_blame(program, source, found, random.Random(seed))
         except AssertionError:
             print(f"seed {seed}\n{source}")

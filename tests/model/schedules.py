@@ -14,7 +14,7 @@ from .state import Channel
 from .trees import Function
 from .world import Refused, World
 
-ENDED, STUCK, FAULT = "ended", "stuck", "fault"
+ENDED, STUCK, FAULT, LEAK = "ended", "stuck", "fault", "leak"
 BAD = (STUCK, FAULT)
 
 
@@ -34,10 +34,11 @@ class Choice(NamedTuple):
 
 @dataclass
 class Node:
-    """A state: the fewest steps to it, how the program ends there, if it does, and the states that follow."""
+    """A state: the fewest steps to it, how the program ends there, if it does, whether it leaks, and the states that follow."""
 
     way: tuple[Choice, ...]
     end: str = ""
+    leaks: bool = False
     nexts: list[int] = field(default_factory=list)
 
 
@@ -53,7 +54,8 @@ class Schedules:
         while waiting:
             node = self.nodes[waiting.popleft()]
             known = len(self.nodes)
-            node.end = end_of(self.world(node.way))
+            world = self.world(node.way)
+            node.end, node.leaks = end_of(world), leaks(world)
             node.nexts = [] if node.end else list(self.followers(node.way))
             waiting.extend(range(known, len(self.nodes)))
 
@@ -83,9 +85,9 @@ class Schedules:
             self.nodes.append(Node(way))
         return found
 
-    def shortest_bad(self) -> Optional[Node]:
+    def shortest_bad(self, with_leaks: bool = False) -> Optional[Node]:
         """A bad end of the fewest steps."""
-        return next((node for node in self.nodes if node.end in BAD), None)
+        return next((node for node in self.nodes if node.end in BAD or with_leaks and node.leaks), None)
 
     def ending_well(self) -> set[int]:
         """The states from which some schedule ends well."""
@@ -117,6 +119,11 @@ class Schedules:
 def end_of(world: World) -> str:
     """How the program ends here, or nothing where it goes on."""
     return world.end[0] if world.end else "" if world.ready() else STUCK
+
+
+def leaks(world: World) -> bool:
+    """Whether the program has ended, some goroutine that is left waits, and none is ready."""
+    return world.end == (ENDED,) and not world.ready() and any(it.status == "waiting" for it in world.goroutines.values())
 
 
 def choices(world: World) -> list[Choice]:
