@@ -51,7 +51,7 @@ functions_length [] = refl
 functions_length (f ∷ fs) = ap suc (functions_length fs)
 
 -- the code of a checked program
-fits_of : (p : Program) → IsChecked p → ProgramFits (meaning p) p (lowered p)
+pub fits_of : (p : Program) → IsChecked p → ProgramFits (meaning p) p (lowered p)
 fits_of p checked = checked_fits checked.file p checked.checked
 
 -- a frame is that of a function

@@ -6,3 +6,4 @@ pub mod ChannelsShown
 pub mod Logs
 pub mod NextLines
 pub mod ConsoleOfLogs
+mod StacksShown

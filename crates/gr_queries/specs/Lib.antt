@@ -1,3 +1,4 @@
 pub mod Said
 pub mod Frames
 pub mod Consoles
+pub mod Stacks

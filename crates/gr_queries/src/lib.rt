@@ -3,7 +3,9 @@
 #![tactic(auto)]
 
 pub mod showing;
+pub mod stacking;
 pub mod telling;
 
 pub use showing::{chan, next_line, show, text};
+pub use stacking::{StackFrame, StackShown, stack};
 pub use telling::{console, log};

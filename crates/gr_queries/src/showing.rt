@@ -110,7 +110,7 @@ fn goroutine_shown(
 }
 
 /// A status, without what is waited for.
-fn status_shown(status: &Standing) -> Status
+pub(crate) fn status_shown(status: &Standing) -> Status
     ensures { status_in result ≡ without_waits (status_of status.now) }
 {
     match status {
@@ -149,7 +149,11 @@ fn frames_shown(
 }
 
 /// A frame: its function, and its variables that hold values.
-fn frame_shown(alloc: Global, program: &Program, frame: &Frame) -> Result<FrameShown, NoMemory>
+pub(crate) fn frame_shown(
+    alloc: Global,
+    program: &Program,
+    frame: &Frame,
+) -> Result<FrameShown, NoMemory>
     requires checked { IsChecked (program_of program.now) }
     requires stands { Stands (meaning (program_of program.now)) (lowered (program_of program.now)) frame.now }
     ensures { IfOk result (λ r. frame_told r ≡ code_frame_shown (program_of program.now) frame.now) }
