@@ -23,7 +23,8 @@ interface Edge { from: string; to: string; kind: string }
 interface Note {
   line: number; statement: Statement | null; printed: string[];
   before: StackFrame | null; after: StackFrame | null; isValued: boolean; // the frames that tell values, where these were read
-  woke: string[]; channels: string[]; // the waits that it ended, and the channels that it worked on
+  woke: string[]; channels: string[]; // the waits that it ended, and the channels that it made or worked on
+  started: string; made: string; // the goroutine and the channel that it gave a name, or ""
   over: Operation; // what it does over a channel
   received: string; part: string; turn: number; // what it received, by which part of its statement, after so many others
   taken: string; cases: Operation[]; // the case that its select took, and those that it waits with

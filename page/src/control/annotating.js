@@ -7,7 +7,7 @@ import { pause } from "../element.js";
 import { shownOf } from "../picture/shown.js";
 import { standingOf } from "../waiting/standing.js";
 import { FOLLOWED } from "../session/notes.js";
-import { starterOf } from "./finding.js";
+import { stepName } from "../engine/protocol.js";
 import { phrase } from "../phrases.js";
 
 const WHOLE = 20000; // in a log of up to this many steps each has a note; of a longer one those in view
@@ -166,29 +166,17 @@ export class Annotating {
     return edges;
   }
 
-  // The function that each goroutine runs, by its outermost frame or the statement that started it.
+  // The function that each goroutine runs, by its outermost frame or, where it is done, by its first step.
   functions() {
     const { session } = this.page;
     if (session !== this.session) this.functionOf = new Map();
     this.session = session;
     for (const { name, frames } of session?.scene.goroutines || []) {
       const outermost = frames[frames.length - 1];
-      if (outermost) this.functionOf.set(name, outermost.name);
-      else if (session && !this.functionOf.has(name)) this.nameByStart(session, name);
+      const called = outermost?.name || session?.reader.facts.of(stepName(name, 1))?.at?.function;
+      if (called) this.functionOf.set(name, called);
     }
     return this.functionOf;
-  }
-
-  // A goroutine that is done has no frames: its function stands in the statement that started it.
-  /**
-   * @param {import("../session/session.js").Session} session
-   * @param {string} name
-   */
-  nameByStart(session, name) {
-    const started = name === "g0" ? "" : starterOf(session, name);
-    const called = /^go (\w+)/.exec(this.page.note(started)?.statement?.text || "");
-    if (called) this.functionOf.set(name, called[1]);
-    else if (name === "g0") this.functionOf.set(name, "main");
   }
 
   // Whether the statement of each step is found, or will be.

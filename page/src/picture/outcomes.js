@@ -5,24 +5,11 @@ import { isWait, word } from "../session/edges.js";
 import { phrase } from "../phrases.js";
 
 const GIVEN = 2; // variables that a line names
-const COUNTED = 20000; // steps of a goroutine up to which it is counted what it started and made
 const VALUE = 24; // letters
 const CORE_NAME = / \(g[\d.]+\/c\d+\)/g; // behind the variable of a channel
 
 /** @typedef {import("./layout.js").Place} Place */
 /** @typedef {{name: string, text: string}} Part */
-
-// The name of what a step started or made: its goroutine has done so this many times by then.
-/**
- * @param {Place} place
- * @param {Step} step
- * @param {string} between
- */
-function givenName({ log }, { goroutine, kind, row }, between) {
-  const rows = log.byName.get(goroutine)?.rows || [];
-  if (rows.length > COUNTED) return "";
-  return `${goroutine}${between}${rows.filter((it) => it <= row && log.kinds[it] === kind).length}`;
-}
 
 // The variables that have another value behind a step, in the same frame.
 /**
@@ -112,8 +99,8 @@ const OUTCOMES = {
   closed: (_, __, ___, called) => plain(`← ${called ? phrase("nothing: {channel} is closed", { channel: called }) : phrase("nothing: it is closed")}`),
   default: () => plain(phrase("no case was ready")),
   close: (_, __, ___, called) => plain(called ? phrase("closes {channel}", { channel: called }) : phrase("closes it")),
-  go: (step, _, place) => plain(startsText(givenName(place, step, "."))),
-  make: (step, _, place) => plain(makesText(givenName(place, step, "/c"), place)),
+  go: (_, note) => plain(startsText(note.started)),
+  make: (_, note, place) => plain(makesText(note.made, place)),
   exit: () => plain(phrase("the program ends")),
 };
 

@@ -47,37 +47,31 @@ export async function followed(page, session, schedule) {
     const before = await reader.sceneAt(Math.max(0, log.length - 1)); // behind the end of `main` no variable holds a channel
     const scene = await reader.sceneAt(log.length);
     const holders = holdersOf([...(scene?.goroutines || []), ...(before?.goroutines || [])]);
-    return { schedule, log, order, shown: shownOf(page, log, notes, { scene, holders }), scene };
+    return { schedule, log, order, shown: shownOf(page, reader, { scene, holders }), scene };
   }, true);
 }
 
-// The function of each goroutine, by the statement that started it.
+// The function of each goroutine, by its frames at the end or, where it is done, by its first step.
 /**
- * @param {Log} log
- * @param {import("../session/notes.js").Notes} notes
+ * @param {Reader} reader
+ * @param {Scene | null} scene
  * @param {Map<string, string>} known
  */
-function functionsOf(log, notes, known) {
-  const functions = new Map(known);
-  /** @type {Map<string, number>} */
-  const counts = new Map();
-  for (const { id, goroutine } of log.steps(0, log.length).filter(({ kind }) => kind === "go")) {
-    const count = (counts.get(goroutine) || 0) + 1;
-    counts.set(goroutine, count);
-    functions.set(`${goroutine}.${count}`, /^go (\w+)/.exec(notes.get(id)?.statement?.text || "")?.[1] || "");
-  }
-  return functions;
+function functionsOf({ log, facts }, scene, known) {
+  const frames = new Map(scene?.goroutines.map((it) => [it.name, it.frames.at(-1)?.name]));
+  const functions = log.names.map((name) => /** @type {[string, string]} */ ([name, frames.get(name) || facts.of(stepName(name, 1))?.at?.function || known.get(name) || ""]));
+  return new Map(functions);
 }
 
 /**
  * @param {import("../control/page.js").Page} page
- * @param {Log} log
- * @param {import("../session/notes.js").Notes} notes
+ * @param {Reader} reader
  * @param {{scene: Scene | null, holders: ReturnType<typeof holdersOf>}} end
  */
-function shownOf({ words, annotating, session }, log, notes, { scene, holders }) {
+function shownOf({ words, annotating, session }, reader, { scene, holders }) {
+  const { log, notes } = reader;
   return {
-    log, rows: new Rows(log), functions: functionsOf(log, notes, annotating.functions()), notes: (/** @type {string} */ id) => (session ? session.origin.readNote(notes.get(id), scene) : notes.get(id)),
+    log, rows: new Rows(log), functions: functionsOf(reader, scene, annotating.functions()), notes: (/** @type {string} */ id) => (session ? session.origin.readNote(notes.get(id), scene) : notes.get(id)),
     called: (/** @type {string} */ channel) => calledBy(holders, channel), does: (/** @type {string} */ kind) => words.kind(kind),
   };
 }

@@ -95,6 +95,10 @@ export const wroteLast = ({ sources }, goroutine) => sources.find(({ object, of 
 /** @param {About} fact */
 export const wokenBy = (fact) => (fact.kind === "go" ? [] : fact.reached.map((name) => wroteLast(fact, name)));
 
+// The goroutine that a step started, or "".
+/** @param {About} fact */
+export const startedBy = ({ kind, reached }) => (kind === "go" && reached[0]) || "";
+
 /** @param {About | undefined} fact */
 export const sends = (fact) => fact?.channel?.operation === "send";
 /** @param {About | undefined} fact */
@@ -104,10 +108,10 @@ export const receives = (fact) => fact?.channel?.operation === "receive";
 /** @param {About} fact */
 export const slotOf = ({ sources, channel }) => sources.find(({ object, of, wrote }) => object === "slot" && of === channel?.name && wrote);
 
-// The channels that a step worked on, or those that it looked at where it took no case of a select.
+// The channels that a step made or worked on, or those that it looked at where it took no case of a select.
 /** @param {About} fact */
-export function channelsOf({ kind, channel, sources }) {
-  if (channel) return [channel.name];
+export function channelsOf({ kind, channel, made, sources }) {
+  if (channel || made) return [channel?.name || made || ""];
   if (kind !== "select-wait" && kind !== "default") return [];
   return [...new Set(sources.filter(({ object }) => object === "gate").map(({ of }) => of))];
 }

@@ -3,7 +3,7 @@
 
 import { parseGoroutine } from "../engine/protocol.js";
 import { isWait } from "./edges.js";
-import { channelsOf, receives, sends, slotOf, wokenBy } from "./facts.js";
+import { channelsOf, receives, sends, slotOf, startedBy, wokenBy } from "./facts.js";
 import { caseOf, isReceive, metCase, operationOf, receivedPart } from "./messages.js";
 
 export const FOLLOWED = 300000; // steps: of a longer log no values and prints are read
@@ -106,7 +106,7 @@ export class Notes {
     const text = taken || statement?.text || "";
     const turn = this.turnOf(step, statement);
     return {
-      line: statements.lineOf(line), statement, before: null, after: null, isValued: false, printed: [], woke: wokenBy(fact), channels: channelsOf(fact), cases: [], turn, taken,
+      line: statements.lineOf(line), statement, before: null, after: null, isValued: false, printed: [], woke: wokenBy(fact), started: startedBy(fact), made: fact.made || "", channels: channelsOf(fact), cases: [], turn, taken,
       received: "", part: isReceive(step.kind) ? receivedPart(text, turn) : "", over: operationOf(fact, text, []),
     };
   }

@@ -7,12 +7,6 @@
  * @param {string} channel
  */
 export function worksOn(log, notes, channel) {
-  const [owner, number] = channel.split("/c");
-  const makes = (log.byName.get(owner)?.rows || []).filter((row) => log.kinds[row] === "make");
-  const made = makes[Number(number) - 1];
-  if (made === undefined) return null;
-  return (/** @type {number} */ row) => {
-    const channels = notes(log.id(row))?.channels;
-    return row === made || !channels || channels.includes(channel);
-  };
+  if (!log.channels.includes(channel)) return null;
+  return (/** @type {number} */ row) => notes(log.id(row))?.channels.includes(channel) ?? true;
 }

@@ -2,7 +2,7 @@
 
 import assert from "node:assert/strict";
 import { test } from "node:test";
-import { channelsOf, Facts, slotOf, wokenBy } from "../../src/session/facts.js";
+import { channelsOf, Facts, slotOf, startedBy, wokenBy } from "../../src/session/facts.js";
 import { Log } from "../../src/session/log.js";
 
 function made(length = 1200) {
@@ -58,4 +58,6 @@ test("what a step ended, and where its value lay", () => {
   const select = /** @type {any} */ ({ kind: "select-wait", channel: null, sources: [gate("g0/c1"), gate("g0/c2"), gate("g0/c1")] });
   assert.deepEqual(channelsOf(select), ["g0/c1", "g0/c2"], "a select looked at all of its channels");
   assert.deepEqual(channelsOf(/** @type {any} */ ({ kind: "pure", channel: null, sources: [] })), []);
+  assert.deepEqual(channelsOf(/** @type {any} */ ({ kind: "make", channel: null, made: "g0/c1", sources: [] })), ["g0/c1"]);
+  assert.deepEqual([startedBy(/** @type {any} */ ({ kind: "go", reached: ["g0.2"] })), startedBy(/** @type {any} */ ({ kind: "hand", reached: ["g0.2"] }))], ["g0.2", ""]);
 });

@@ -78,7 +78,7 @@ test("rows stay as they are where a goroutine is hidden later", () => {
 test("the operations of a channel", () => {
   const log = logOf(["g0", "make"], ["g0", "make"], ["g0", "pure"], ["g0", "buffer"], ["g0", "take"], ["g0", "close"]);
   /** @type {Map<string, any>} */
-  const notes = new Map([["g0#1", { channels: [] }], ["g0#2", { channels: [] }], ["g0#3", { channels: [] }], ["g0#4", { channels: ["g0/c1"] }], ["g0#5", { channels: ["g0/c2"] }]]);
+  const notes = new Map([["g0#1", { channels: ["g0/c1"] }], ["g0#2", { channels: ["g0/c2"] }], ["g0#3", { channels: [] }], ["g0#4", { channels: ["g0/c1"] }], ["g0#5", { channels: ["g0/c2"] }]]);
   const rows = new Rows(log, { isShown: worksOn(log, (id) => notes.get(id), "g0/c2") });
   assert.deepEqual(rows.starts, [1, 4, 5], "a channel's operations, where it was made, and steps without a note");
   assert.deepEqual([0, 1, 2, 4].map((row) => rows.has(row)), [false, true, false, true], "steps that are in the picture");
