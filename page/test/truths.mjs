@@ -139,6 +139,16 @@ async function severalBreakpoints(hands) {
 }
 
 /** @param {Hands} hands */
+async function clausesBehindABreakpoint(hands) {
+  await hands.source(SELECT.replace("8000", "3"));
+  await hands.perform("break 9");
+  await hands.perform("run 60");
+  assert.deepEqual(await hands.browser.run("rewind.page.session.scene.clauses.get('g0').map(({ number }) => number)"), [1, 2], "both clauses of a select are offered where a breakpoint ended the run");
+  assert.ok(/^run [1-5]?\d$/.test(await hands.browser.run("rewind.page.session.commands.at(-1)")), "and the steps that it took are kept");
+  await hands.perform("clear 9");
+}
+
+/** @param {Hands} hands */
 async function clausesAtAnyLength(hands) {
   await hands.source(SELECT);
   await hands.perform("break 9");
@@ -253,6 +263,7 @@ const TRUTHS = {
   "breakpoints among many goroutines": breakpointsOfManyGoroutines,
   "breakpoints of the page": breakpointsOfThePage,
   "several breakpoints": severalBreakpoints,
+  "clauses behind a breakpoint": clausesBehindABreakpoint,
   "clauses in a long log": clausesAtAnyLength,
   "faults in clauses": faultsInClauses,
   "sessions that die": deaths,

@@ -20,6 +20,7 @@ const KEPT = 5000; // commands that are kept for a link and for a reload
 const TOLD = 2000; // steps: of a longer run the log is read of a copy of the session, since queries tell more of each step
 const AT_ONCE = 1000; // rows that an answer has at most
 const LONG = 20000; // steps: behind more, what may be a long answer is told by a copy
+const CUT = new Set(["break", "memory"]); // ends of a run that come otherwise where the commands are taken again
 /** @type {Reply} */
 const NO_COMMAND = { lines: [], last: "? bad command", words: ["?", "bad", "command"], isOk: false };
 /** @type {Reply} */
@@ -222,7 +223,8 @@ export class Session {
    */
   note(words, reply) {
     if (words[0] === "step" && words[2] && reply.words[2] === "fault") this.clauses.set(reply.words[1], words[2]);
-    if (reply.isOk && CHANGES.has(words[0]) && this.commands.length <= KEPT) this.commands.push(words.join(" "));
+    const line = words[0] === "run" && CUT.has(reply.words[2]) ? `run ${reply.words[1]}` : words.join(" ");
+    if (reply.isOk && CHANGES.has(words[0]) && this.commands.length <= KEPT) this.commands.push(line);
   }
 
   // Reads so many steps that a run has taken. For clients a long log is told at ten times its length, and so a copy tells it.
