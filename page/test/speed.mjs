@@ -137,6 +137,8 @@ async function clicksAtAMillion(hands, t) {
   await hands.source(LOOP);
   await hands.browser.run("rewind.page.perform('run 1000000'), 0");
   await hands.idle();
+  const statement = await hands.browser.run("(({ page } = rewind, [row] = page.views.picture.stepsInView()) => page.note(page.session.log.id(row))?.statement?.text)()");
+  assert.ok(["for", "c <- 1", "total += <-c"].includes(statement), "statements are shown at any length");
   const step = await timesOf(hands, () => "rewind.page.step('g0')");
   const marked = await timesOf(hands, (/** @type {number} */ at) => marking(999990 - at));
   await hands.until("rewind.page.pointing.about?.id === rewind.page.pointing.pointed");
