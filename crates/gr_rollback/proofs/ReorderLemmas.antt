@@ -19,6 +19,7 @@ use Rattle.gr_depend.specs.declared.log.Log.{Log}
 use Rattle.gr_depend.specs.Logs.{records_of}
 use Rattle.gr_depend.specs.Named.{IsNamed}
 use Rattle.gr_depend.specs.Ordering.{name, BreaksAt}
+use Rattle.gr_depend.proofs.OrderingLemmas.{as_many}
 use Rattle.gr_rollback.specs.declared.TheConstants.{LOG_LIMIT}
 use Rattle.gr_rollback.specs.declared.machine.Machine.{Machine}
 use Rattle.gr_rollback.specs.declared.refusal.BackRefused.{BackRefused}
@@ -28,7 +29,7 @@ use Rattle.gr_rollback.specs.Courses.{Holds}
 use Rattle.gr_rollback.specs.Machines.{steps_of, Stands}
 use Rattle.gr_rollback.specs.Pasts.{Timeline}
 use Rattle.gr_rollback.specs.Reordering.{NamesPair}
-use Rattle.gr_rollback.proofs.CourseLemmas.{stays}
+use Rattle.gr_rollback.proofs.CourseLemmas.{log_length, stays}
 use Rattle.gr_rollback.proofs.KeptLemmas.{begins_running}
 use Rattle.gr_rollback.proofs.OrderLemmas.{ids_once, others_named, broken_by, takes_order}
 use Rattle.gr_rollback.proofs.RedoLemmas.{stands_still}
@@ -110,6 +111,11 @@ module _ (p : Program) (w : Timeline p) (m : Machine) (s : Stands p w m) where
       same_stands same,
     )
 
+    -- out of memory, with as many names as steps
+    pub memory_told : (taken : Vec StepId Global) → taken.items ≡ [] → records_of log ≡ steps_of m → length ids ≡ length (steps_of m)
+        → Reordered p w ids (Err (refusals.NoMemory taken)) (with_log m log)
+    memory_told taken none same many = (none, many ∙ log_length p w.past m.course h, same_stands same)
+
     pub break_told : (earlier later : ℕ) (why : BackRefused) → records_of log ≡ steps_of m → BreaksAt (steps_of m) ids earlier later
         → NamesPair (records_of log) earlier later why → Reordered p w ids (Err why) (with_log m log)
     break_told earlier later (refusals.BreaksDependence first second) same breaks told =
@@ -124,7 +130,8 @@ module _ (p : Program) (w : Timeline p) (m : Machine) (s : Stands p w m) where
           },
           same_stands same,
         )
-    break_told earlier later (refusals.NoMemory taken) same breaks told = (told, same_stands same)
+    break_told earlier later (refusals.NoMemory taken) same breaks told =
+        memory_told taken told same (as_many (steps_of m) ids earlier later once breaks)
     break_told earlier later refusals.NothingToUndo same breaks told = absurd told
     break_told earlier later refusals.NotKept same breaks told = absurd told
     break_told earlier later refusals.NotTheSteps same breaks told = absurd told

@@ -147,5 +147,5 @@ abbrev pub Reordered : (p : Program) → Timeline p → List StepId → Result (
 Reordered p w ids (Ok done) m = Reorders p w ids m
 Reordered p w ids (Err refusals.NotTheSteps) m = (ordered_by p (names_in ids) w.past.log ≡ other_steps) × Stands p w m
 Reordered p w ids (Err (refusals.BreaksDependence first second)) m = Breaks p w ids first second × Stands p w m
-Reordered p w ids (Err (refusals.NoMemory taken)) m = (taken.items ≡ []) × Stands p w m
+Reordered p w ids (Err (refusals.NoMemory taken)) m = (taken.items ≡ []) × (length ids ≡ length w.past.log) × Stands p w m
 Reordered p w ids (Err _) m = ⊥

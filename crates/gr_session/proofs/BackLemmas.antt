@@ -153,7 +153,7 @@ module _ (p : Program) (w : World p) (d : Debuggee) (lines : HasLines w.lines d.
   order_leads ids (Err refusals.NothingToUndo) is = absurd is
   order_leads ids (Err refusals.NotKept) is = absurd is
   order_leads ids (Err refusals.NothingToRedo) is = absurd is
-  order_leads ids (Err (refusals.NoMemory taken)) is = partly (commands.Order ids) w taken.items [] is.0 cannot_order (stays is.1)
+  order_leads ids (Err (refusals.NoMemory taken)) is = partly (commands.Order ids) w taken.items [] is.0 (cannot_order is.1) (stays is.2)
 
 -- what is answered leads where what it says does
 pub by_answer : (p : Program) (w : World p) (d : Debuggee) (command : Command) (answer said : Memory × Said) → answer ≡ said

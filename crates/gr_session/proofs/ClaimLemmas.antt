@@ -76,7 +76,7 @@ module _ (p : Program) where
   comes_by w u command memory a run (leads.orders log taken) = tt
   comes_by w u command memory a run (leads.has_other_steps others) = tt
   comes_by w u command memory a run (leads.breaks_dependence x y broken) = tt
-  comes_by w u command memory a run leads.cannot_order = tt
+  comes_by w u command memory a run (leads.cannot_order many) = tt
   comes_by w u command memory a run leads.breaks = tt
   comes_by w u command memory a run leads.clears = tt
   comes_by w u command memory a run (leads.tells_dependents i named) = tt

@@ -144,7 +144,7 @@ module _ (p : Program) where
       reordered (asks.Command command) a w u (order_is_one p w.log log w.state run order.0) refl
   command_moves w u command memory a run (leads.has_other_steps others) = still (asks.Command command) a w
   command_moves w u command memory a run (leads.breaks_dependence x y broken) = still (asks.Command command) a w
-  command_moves w u command memory a run leads.cannot_order = still (asks.Command command) a w
+  command_moves w u command memory a run (leads.cannot_order many) = still (asks.Command command) a w
   command_moves w u command memory a run leads.breaks = reordered (asks.Command command) a w u as_it_is refl
   command_moves w u command memory a run leads.clears = reordered (asks.Command command) a w u as_it_is refl
   command_moves w u command memory a run (leads.tells_dependents i named) = still (asks.Command command) a w

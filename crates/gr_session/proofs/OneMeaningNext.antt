@@ -137,7 +137,7 @@ module _ (p : Program) where
   one_next w u v command memory a b run (leads.breaks_dependence x y broken) (leads.breaks_dependence s t also) =
       let one = broken_is x y s t (sym broken ∙ also) in
       (refl, ap₂ (λ x y. BreaksDependence (id_of p x) (id_of p y)) one.0 one.1)
-  one_next w u v command memory a b run leads.cannot_order leads.cannot_order = (refl, refl)
+  one_next w u v command memory a b run (leads.cannot_order many) (leads.cannot_order also) = (refl, refl)
   -- breakpoints
   one_next w u v command memory a b run leads.breaks leads.breaks = (refl, refl)
   one_next w u v command memory a b run leads.clears leads.clears = (refl, refl)

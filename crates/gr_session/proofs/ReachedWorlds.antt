@@ -48,7 +48,7 @@ module _ (p : Program) where
   next_of_run w u command memory a run (leads.orders {ids = ids} log taken) = order_leads_on p w.state w.log log (names_in ids) run taken
   next_of_run w u command memory a run (leads.has_other_steps others) = run
   next_of_run w u command memory a run (leads.breaks_dependence x y broken) = run
-  next_of_run w u command memory a run leads.cannot_order = run
+  next_of_run w u command memory a run (leads.cannot_order many) = run
   next_of_run w u command memory a run leads.breaks = run
   next_of_run w u command memory a run leads.clears = run
   next_of_run w u command memory a run (leads.tells_dependents i named) = run

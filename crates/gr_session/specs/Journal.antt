@@ -158,7 +158,7 @@ pub data Leads (p : Program) (w : World p) : Command → Memory → World p → 
       → Leads p w (commands.Order ids) Enough w (replies.No refusals.NotTheSteps)
   breaks_dependence : {ids : List StepId} (earlier later : Logged p) → ordered_by p (names_in ids) w.log ≡ broken earlier later
       → Leads p w (commands.Order ids) Enough w (replies.BreaksDependence (id_of p earlier) (id_of p later))
-  cannot_order : {ids : List StepId} → Leads p w (commands.Order ids) (EnoughFor 0) w (replies.PartlyDone [])
+  cannot_order : {ids : List StepId} → length ids ≡ length w.log → Leads p w (commands.Order ids) (EnoughFor 0) w (replies.PartlyDone [])
   -- breakpoints
   breaks : {line : ℕ} → Leads p w (commands.Break line) Enough (record w { lines = line ∷ w.lines }) replies.Acknowledged
   clears : {line : ℕ} → Leads p w (commands.Clear line) Enough (record w { lines = without_line line w.lines }) replies.Acknowledged

@@ -1,6 +1,6 @@
 use Rattle.gr_depend.specs.Logs.{records_of}
 use Rattle.gr_depend.specs.Ordering.{BreaksAt}
-use Rattle.gr_rollback.proofs.ReorderLemmas.{once, breaks_within, reorders, other_steps_told, break_told}
+use Rattle.gr_rollback.proofs.ReorderLemmas.{once, breaks_within, memory_told, reorders, other_steps_told, break_told}
 use Rattle.gr_rollback.proofs.machine.Machine.reorder.Goals as goal
 
 pub permuted-requires : goal.permuted-requires
@@ -26,6 +26,11 @@ pub returns-in-Err-NotTheSteps-clause-reordered : goal.returns-in-Err-NotTheStep
 returns-in-Err-NotTheSteps-clause-reordered c = λ p w s.
     other_steps_told p w c.args.self.now s c.permuted.new.self c.args.ids.now c.in-Err-NotTheSteps.ensures.err
     (rw c.in-Err-NotTheSteps.field-0-is at c.in-Err-NotTheSteps.ensures.why)
+
+pub returns-in-Err-NoMemory-clause-reordered : goal.returns-in-Err-NoMemory-clause-reordered
+returns-in-Err-NoMemory-clause-reordered c = λ p w s.
+    memory_told p w c.args.self.now s c.permuted.new.self c.args.ids.now c.new.result c.new.ensures.items c.in-Err-NoMemory.ensures.err
+    (rw c.in-Err-NoMemory.field-0-is at c.in-Err-NoMemory.ensures.why)
 
 pub returns-in-Err-Breaks-clause-reordered : goal.returns-in-Err-Breaks-clause-reordered
 returns-in-Err-Breaks-clause-reordered c = λ p w s.
