@@ -1,5 +1,5 @@
 -- Whether one of some operands stops the program.
-use Rattle.std.proofs.Common.{◌≡◌, ◌≢◌, ℕ, Bool, true, false, List, [], ◌∷◌, ◌<◌, ◌≤◌, ◌+◌, length, drop, get_or, refl, sym, ap, ◌∙◌, arith}
+use Rattle.std.proofs.Common.{◌≡◌, ◌≢◌, ℕ, true, false, List, ◌∷◌, ◌<◌, ◌≤◌, ◌+◌, length, drop, get_or, refl, sym, ap, ◌∙◌}
 use Rattle.std.proofs.lemmas.List.{drop_more, drop_all}
 use Rattle.gr_base.specs.declared.values.Value.{Value}
 use Rattle.gr_code.specs.declared.code.Operand as code

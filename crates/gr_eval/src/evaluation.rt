@@ -1,5 +1,5 @@
 //! Evaluation of operands.
-ghost use Rattle.std.specs.Prelude.{◌≡◌, ◌≢◌, IfOk, IfErr, IfSome, slice_get};
+ghost use Rattle.std.specs.Prelude.{◌≡◌, ◌≢◌, IfOk, IfErr, IfSome, IsOk, length, slice_get};
 ghost use Rattle.gr_base.specs.declared.values.Value.TheVariants as values;
 ghost use Rattle.gr_code.specs.CodeViews.{operand_of, operands_of};
 ghost use Rattle.gr_rules.specs.Outcomes.{gives, wrong};
@@ -192,7 +192,8 @@ pub fn evaluate(alloc: Global, cells: &[Option<Value>], operand: &Operand) -> Re
     }
 }
 
-/// The values of the operands, from left to right. Errors: the fault of the first that has one, and out of memory.
+/// The values of the operands, from left to right. Errors: the fault of the first that has one, and out of memory, where there
+/// are operands.
 pub fn evaluate_all(
     alloc: Global,
     cells: &[Option<Value>],
@@ -201,6 +202,7 @@ pub fn evaluate_all(
     requires { rules.evaluate_all cells.now (operands_of operands.now) ≢ wrong }
     ensures ok { IfOk result (λ v. rules.evaluate_all cells.now (operands_of operands.now) ≡ gives v.items) }
     ensures stop { IfErr result (λ e. Stops e (rules.evaluate_all cells.now (operands_of operands.now))) }
+    ensures none { length operands.now ≡ 0 → IsOk result }
 {
     let mut values = Vec::with_capacity(alloc, operands.len())?;
     for operand in operands {
