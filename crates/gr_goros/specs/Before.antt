@@ -1,5 +1,5 @@
 -- What the change of a goroutine tells of it, by what the change replaced.
-use Rattle.std.specs.Prelude.{◌≡◌, ℕ, Bool, true, false, Option, Some, None}
+use Rattle.std.specs.Prelude.{◌≡◌, Bool, true, false, Option, Some, None}
 use Rattle.gr_rules.specs.Goroutines.{Status, ready}
 use Rattle.gr_code.specs.Goroutines.{CodeGoroutine}
 use Rattle.gr_goros.specs.Undoing.{spot_of, undone}

@@ -5,6 +5,7 @@ ghost use Rattle.gr_rules.specs.Outcomes.{gives, wrong};
 ghost use Rattle.gr_rules.specs.Goroutines.{ready, ToSend, ToReceive};
 ghost use Rattle.gr_code.specs.CodeViews.{program_code_of};
 ghost use Rattle.gr_code.specs.Goroutines.{arrived, parked, retried, CanCount, IsMet};
+ghost use Rattle.gr_goros.specs.Growing.{MayGrow};
 ghost use Rattle.gr_goros.specs.Undoing.{IsLive, Undoes};
 ghost use Rattle.gr_goros.specs.Views.{arrival_of, waits_of, CanHalt, halted};
 
@@ -51,7 +52,8 @@ pub enum Halt {
 }
 
 impl Goroutine {
-    /// Goes on past its instruction with what arrives. Refused, nothing has changed.
+    /// Goes on past its instruction with what arrives. It takes no memory for the end of a `close`, nor for a goroutine that it
+    /// started. Refused, nothing has changed.
     #[inline(always)]
     pub fn deliver(
         &mut self,
@@ -64,6 +66,7 @@ impl Goroutine {
         ensures after { IfOk result (λ _. arrived (program_code_of code.now) (arrival_of arrival) self.old.content
             ≡ gives self.new.content) }
         ensures undone { IfOk result (λ undo. Undoes undo self.old self.new) }
+        ensures memory { OnErr result (MayGrow (arrival_of arrival)) }
         ensures err { OnErr result (self.new ≡ self.old) }
     {
         let instruction = self.top.instruction(code);
@@ -172,12 +175,13 @@ impl Goroutine {
         self.top.spot()
     }
 
-    /// Comes to an end: from its outermost frame, or by a fault. Refused, nothing has changed.
+    /// Comes to an end: from its outermost frame, or by a fault, which takes no memory. Refused, nothing has changed.
     pub fn halt(&mut self, alloc: Global, how: Halt) -> Result<GoUndo, NoMemory>
         requires at_the_end { CanHalt how self.old.content }
         requires counted { self.old.content.steps + 1 < 2 ^ 64 }
         ensures after { IfOk result (λ _. self.new.content ≡ halted how self.old.content) }
         ensures undone { IfOk result (λ undo. Undoes undo self.old self.new) }
+        ensures memory { OnErr result (how ≡ Halt.Finished) }
         ensures err { OnErr result (self.new ≡ self.old) }
     {
         match how {
