@@ -125,7 +125,7 @@ export class Notes {
     return note.statement === statement && isReceive(log.kindOf(before)) ? note.turn + 1 : 0;
   }
 
-  // Gives steps the lines that they printed: the last ones behind a row.
+  // Gives steps the lines that they printed: the last ones behind a row. Where the log has changed meanwhile, they are to be told anew.
   /**
    * @param {number} row
    * @param {string[]} printing
@@ -133,7 +133,9 @@ export class Notes {
   async readPrinted(row, printing) {
     const { log, prints } = this.reader;
     const { version } = log;
-    const replies = printing.length && log.length <= FOLLOWED && prints.areFew(row) ? await this.reader.views(row, ["console"], () => version === log.version) : null;
+    if (!printing.length || log.length > FOLLOWED || !prints.areFew(row)) return;
+    const replies = await this.reader.views(row, ["console"], () => version === log.version);
+    if (version !== log.version) return this.forget(printing);
     const lines = replies?.[0].lines?.slice(-printing.length) || [];
     printing.forEach((id, at) => {
       const note = this.notes.get(id);
@@ -151,7 +153,7 @@ export class Notes {
     const rows = [...this.givers(wanted, from), ...wanted];
     const { version } = this.reader.log;
     const frames = await this.framesOf(rows.flatMap(({ step, fact }) => this.questions(step, fact)), () => version === this.reader.log.version);
-    if (!frames) return;
+    if (!frames || version !== this.reader.log.version) return;
     for (const { step, fact } of rows) this.keep(step, fact, frames);
   }
 

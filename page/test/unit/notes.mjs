@@ -12,8 +12,8 @@ import { Statements } from "../../src/session/statements.js";
 const SOURCE = "package main\nfunc main() {\nx := 2\nprintln(2)\nprintln(3)\nprintln(5)\n}\n";
 const PRINTED = [2, 3, 5];
 
-// A session that has taken these steps, and asks what it was asked.
-function made() {
+// A session that has taken these steps, and what it was asked. Behind the first answer on what was printed, `meanwhile` happens.
+function made(meanwhile = (/** @type {Log} */ _) => {}) {
   const statements = new Statements(SOURCE);
   const lines = statements.all.map(({ expandedLine }) => expandedLine);
   const log = new Log();
@@ -27,6 +27,7 @@ function made() {
   const answer = (command) => {
     asked.push(command);
     const [, row, view] = command.split(" ");
+    if (view === "console" && asked.length === 1) meanwhile(log);
     if (view === "console") return `${PRINTED.slice(0, Number(row) - 1).map((it) => `| ${it}\n`).join("")}ok\n`;
     return `| g0 ready ${row} line ${lines[Number(row)]}\n| main${Number(row) ? " x=2" : ""}\nok\n`;
   };
@@ -47,6 +48,14 @@ test("steps have the lines that they printed, and the values that they gave", as
   assert.deepEqual(asked, ["at 4 console", "at 0 show g0", "at 1 show g0"], "and no state is asked that tells no value");
   await reader.notes.find(0, log.length);
   assert.equal(asked.length, 3, "what is found is not asked again");
+});
+
+test("lines are read anew where the log has changed meanwhile", async () => {
+  const { log, reader } = made((it) => it.append("g0", "pure"));
+  await reader.notes.find(0, 4, { hasValues: false });
+  assert.deepEqual([reader.notes.get("g0#1")?.printed, reader.notes.get("g0#2")], [[], undefined], "and until then the steps have no note");
+  await reader.notes.find(0, log.length, { hasValues: false });
+  assert.deepEqual(["g0#2", "g0#3", "g0#4"].map((id) => reader.notes.get(id)?.printed), [["2"], ["3"], ["5"]]);
 });
 
 test("steps that stay keep their own lines where one after them was taken back", async () => {
