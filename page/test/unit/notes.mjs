@@ -13,7 +13,8 @@ const SOURCE = "package main\nfunc main() {\nx := 2\nprintln(2)\nprintln(3)\npri
 const PRINTED = [2, 3, 5];
 
 // A session that has taken these steps, and what it was asked. Behind the first answer on what was printed, `meanwhile` happens.
-function made(meanwhile = (/** @type {Log} */ _) => {}) {
+/** @param {(log: Log) => void} meanwhile */
+function made(meanwhile = () => {}) {
   const statements = new Statements(SOURCE);
   const lines = statements.all.map(({ expandedLine }) => expandedLine);
   const log = new Log();

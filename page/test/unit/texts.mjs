@@ -41,7 +41,7 @@ test("a scene and a note with their texts", () => {
   assert.deepEqual(goroutines[0].frames[0].variables.map(({ value }) => value), ['"bob"', "g0/c1", "1"]);
   assert.deepEqual([channels[0].items, channels[0].senders, channels[0].receivers], [['"bob"'], ['g0.1@2="say \\"so\\""'], ["g0.2"]]);
   const over = { text: "", isSend: true, channel: "g0/c1", sent: "1" };
-  const note = { line: 3, statement: null, before: null, after: null, isValued: true, printed: [], woke: [], channels: [], over, received: "", part: "", turn: 0, taken: "", cases: [] };
+  const note = { line: 3, statement: null, before: null, after: null, isValued: true, printed: [], woke: [], started: "", made: "", channels: [], over, received: "", part: "", turn: 0, taken: "", cases: [] };
   assert.equal(origin.readNote(note, scene)?.over.sent, '"bob"', "by its line");
   assert.equal(origin.readNote({ ...note, line: 9 }, scene)?.over.sent, '"bob"', "by its channel");
   assert.equal(new Origin("package main\n").readNote(note, scene), note, "a program that was not carried over is as it is");
