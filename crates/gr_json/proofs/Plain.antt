@@ -9,11 +9,14 @@ use Rattle.gr_command.specs.Replies.{Said, Stepped, Ran, Undone, Shown, Channel,
 use Rattle.gr_base.specs.declared.objects.Object.{Object}
 use Rattle.gr_base.specs.declared.objects.Object.TheVariants.{Run, Go, Gate, Tail, Head, Slot}
 use Rattle.gr_facts.specs.Facts.{Facts}
+use Rattle.gr_facts.specs.Moved.{Moved}
 use Rattle.gr_facts.specs.declared.sources.Source.{Source}
-use Rattle.gr_json.specs.Facts.{operation_data, owner_data, slot_of, source_data, place_data, facts_data}
+use Rattle.gr_json.specs.Facts.{operation_data, owner_data, slot_of, source_data, place_data, facts_data, moved_data}
 use Rattle.gr_json.specs.Parts.{text, count, go_data, channel_data, step_data, value_data, kind_data, perhaps, list}
 use Rattle.gr_rules.specs.Attempts.{Operation}
 use Rattle.gr_json.specs.Replies.{variable_data, frame_data, receiver_data, sender_data, kept_data, reply_data, said_data, end_kind, end_line}
+use Rattle.gr_json.specs.Stacks.{stack_data, stack_frame_data}
+use Rattle.gr_queries.specs.Stacks.{Stack}
 use Rattle.gr_rules.specs.Tells.{FrameShown}
 
 abbrev pub IsPlain : Data → Type 0
@@ -93,3 +96,12 @@ facts_plain f =
     (neither _ _ (list_plain text (λ t. refl) f.given)
     (neither _ _ (perhaps_plain channel_data (λ c. refl) f.made)
     (neither _ _ (list_plain go_data (λ g. refl) f.reached) (neither _ _ (list_plain source_data source_plain f.sources) refl)))))
+
+pub moved_plain : (m : Moved) → IsPlain (moved_data m)
+moved_plain m = neither _ _ (perhaps_plain text (λ t. refl) m.printed) (neither _ _ (perhaps_plain value_data (λ v. refl) m.value) refl)
+
+stack_frame_plain : (f : FrameShown × ℕ) → IsPlain (stack_frame_data f)
+stack_frame_plain f = neither _ _ (list_plain variable_data (λ v. refl) f.0.variables) refl
+
+pub stack_plain : (s : Stack) → IsPlain (stack_data s)
+stack_plain s = neither _ _ (list_plain stack_frame_data stack_frame_plain s.frames) refl

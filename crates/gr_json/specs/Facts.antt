@@ -1,12 +1,13 @@
--- JSON of what a step was.
+-- JSON of what a step was, and of what it moved and printed.
 use Rattle.std.specs.Prelude.{ℕ, List, [], ◌∷◌, Option, Some, None, codes}
 use Rattle.serde_json.specs.Data.{Data, boolean, string}
 use Rattle.gr_base.specs.declared.names.ChName.{ChName}
 use Rattle.gr_base.specs.declared.objects.Object.{Object}
 use Rattle.gr_base.specs.declared.objects.Object.TheVariants.{Run, Go, Gate, Tail, Head, Slot}
 use Rattle.gr_facts.specs.Facts.{Facts}
+use Rattle.gr_facts.specs.Moved.{Moved}
 use Rattle.gr_facts.specs.declared.sources.Source.{Source}
-use Rattle.gr_json.specs.Parts.{text, count, go_data, channel_data, step_data, kind_data, perhaps, list, fields}
+use Rattle.gr_json.specs.Parts.{text, count, go_data, channel_data, step_data, value_data, kind_data, perhaps, list, fields}
 use Rattle.gr_rules.specs.Attempts.{Operation, sends_on, receives_from, takes_len_of, takes_cap_of, closes}
 
 abbrev pub operation_name : Operation → List ℕ
@@ -72,4 +73,11 @@ facts_data f = fields (
     ∷ (codes "prints", boolean f.prints)
     ∷ (codes "reached", list go_data f.reached)
     ∷ (codes "sources", list source_data f.sources)
+    ∷ [])
+
+abbrev pub moved_data : Moved → Data
+moved_data m = fields (
+    (codes "id", step_data m.id)
+    ∷ (codes "printed", perhaps text m.printed)
+    ∷ (codes "value", perhaps value_data m.value)
     ∷ [])

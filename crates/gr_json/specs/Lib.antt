@@ -2,3 +2,4 @@
 pub mod Parts
 pub mod Replies
 pub mod Facts
+pub mod Stacks

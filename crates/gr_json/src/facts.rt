@@ -1,4 +1,4 @@
-//! JSON of what a step was.
+//! JSON of what a step was, and of what it moved and printed.
 
 ghost use Rattle.std.specs.Prelude.{◌≡◌, ◌∷◌, [], codes, IfOk, option_map};
 ghost use Rattle.serde_json.specs.Data.{boolean, string};
@@ -9,7 +9,7 @@ ghost use Rattle.gr_json.specs.Parts.{fields, perhaps as perhaps_data};
 
 use crate::parts::{Told, list, perhaps};
 use gr_base::{NoMemory, Object};
-use gr_facts::{Facts, Source};
+use gr_facts::{Facts, Moved, Source};
 use gr_record::Operation;
 use serde_json::{Value, json};
 use std::alloc::{AllocError, Global};
@@ -195,6 +195,28 @@ impl Told for Facts {
             sources: list(alloc, self.sources.as_slice())?,
         };
         let value = row_value(alloc, row)?;
+        Ok(value)
+    }
+}
+
+fn moved_value(alloc: Global, id: Value, printed: Value, moved: Value) -> Result<Value, AllocError>
+    ensures { IfOk result (λ value. view value ≡ fields (
+        (codes "id", view id) ∷ (codes "printed", view printed) ∷ (codes "value", view moved) ∷ [])) }
+{
+    json!(in alloc; {"id": id, "printed": printed, "value": moved})
+}
+
+impl Told for Moved {
+    ghost use Rattle.gr_facts.specs.Views.{moved_in};
+    ghost use Rattle.gr_json.specs.Facts.{moved_data};
+
+    ghost told = { λ row. moved_data (moved_in row) };
+
+    fn value(&self, alloc: Global) -> Result<Value, NoMemory> {
+        let id = self.id.value(alloc)?;
+        let printed = perhaps(alloc, &self.printed)?;
+        let moved = perhaps(alloc, &self.value)?;
+        let value = moved_value(alloc, id, printed, moved)?;
         Ok(value)
     }
 }

@@ -5,6 +5,7 @@ pub mod facts;
 pub mod line;
 pub mod parts;
 pub mod replies;
+mod stacks;
 
 pub use line::write_line;
 pub use parts::Told;

@@ -70,7 +70,7 @@ fn line_of_end(end: RunEnd) -> Option<u32>
     }
 }
 
-fn name_of_status(status: Status) -> &'static str
+pub(crate) fn name_of_status(status: Status) -> &'static str
     ensures { result.now ≡ status_name (status_in status) }
 {
     match status {
