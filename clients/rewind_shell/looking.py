@@ -12,7 +12,6 @@ from rewind_client.facts import Fact
 from rewind_client.names import is_channel, is_goroutine, is_step, step_number, step_of
 from rewind_client.program import Program
 from rewind_client.replies import Goroutine
-from rewind_client.searching import STATES
 from rewind_client.sentences import Sentences
 from rewind_client.session import NOTED
 from rewind_client.stories import Stories, relation
@@ -26,8 +25,9 @@ MAX_ROWS = 1000
 SHOWN_TEXT = 60
 # To follow so many steps takes longer than a person waits without a sign.
 LONG = 10_000
-# So many seconds `why` looks for the step to blame.
-BLAMED_WITHIN = 1
+# So far `why` looks for the step to blame: states of a search, and seconds, which most programs are far from.
+BLAMED_STATES = 10_000
+BLAMED_WITHIN = 5
 
 
 class Looking:
@@ -137,7 +137,7 @@ class Looking:
 
     def tell_blame(self) -> None:
         """Which step made the bad end certain, where a search finds it while a user waits."""
-        blamed = self.shell.blamed(STATES, BLAMED_WITHIN)
+        blamed = self.shell.blamed(BLAMED_STATES, BLAMED_WITHIN)
         if blamed.step:
             self.screen.say(f"{blamed.step} is to blame: before it some schedule ends well, and after it none does.")
             tell_step(self.shell, blamed.step)
