@@ -18,9 +18,12 @@ from tools.measure.figures import TOP, origin, told
 
 def markdown(lines: list[str]) -> str:
     """The figures as a table."""
-    head = ["# The page", "", "Written by `make page-figures`. The processes are those of the browser for pages. Their memory has what they share with others, "
-            "too, which is the larger part before a run.", "", origin(Browser=told("chromium", "--version")), "", "| What | Figure |", "|---|---|"]
-    rows = [f"| {what} | {figure.strip()} |" for what, _, figure in (line.partition(":") for line in lines)]
+    what = (
+        "Written by `make page-figures`. The processes are those of the browser for pages. Their memory has what they share with others, "
+        "too, which is the larger part before a run."
+    )
+    head = ["# The page", "", what, "", origin(Browser=told("chromium", "--version")), "", "| What | Figure |", "|---|---|"]
+    rows = [f"| {name} | {figure.strip()} |" for name, _, figure in (line.partition(":") for line in lines)]
     return "\n".join([*head, *rows, ""])
 
 
