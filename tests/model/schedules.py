@@ -78,7 +78,7 @@ class Schedules:
 
     def number(self, world: World, way: tuple[Choice, ...]) -> int:
         """The number of a state, which is a new one where the state was not met."""
-        found = self.numbers.setdefault(told(world), len(self.nodes))
+        found = self.numbers.setdefault(key_of(world), len(self.nodes))
         if found == len(self.nodes):
             if found == self.most:
                 raise TooMany
@@ -106,7 +106,7 @@ class Schedules:
     def to_blame(self, way: tuple[Choice, ...]) -> str:
         """The first step of a run behind which no schedule ends well any more, by its name; nothing where there is none."""
         well = self.ending_well()
-        states = [self.numbers[told(self.world(way[:steps]))] for steps in range(len(way) + 1)]
+        states = [self.numbers[key_of(self.world(way[:steps]))] for steps in range(len(way) + 1)]
         if states[0] not in well:
             return ""
         first = next((at for at, state in enumerate(states) if state not in well), None)
@@ -136,7 +136,7 @@ def clauses_of(world: World, go: str) -> range:
     return range(1, len(ask.clauses) + 1) if ask.form == "select" else range(1, 1)
 
 
-def told(world: World) -> object:
+def key_of(world: World) -> object:
     """A state as a value that two states have only where they go on alike."""
     goroutines = sorted((it.name, it.status, repr(it.given)) for it in world.goroutines.values())
     return repr((world.end, goroutines, [contents(it) for _, it in sorted(world.channels.items())]))
